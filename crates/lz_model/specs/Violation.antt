@@ -1,0 +1,31 @@
+-- When a program is violated within its bounds, and when a run follows a schedule.
+use Rattle.std.specs.Prelude.{◌≡◌, ℕ, ◌≤◌, List, map}
+use Rattle.lz_base.specs.declared.word.BreakKind.{BreakKind}
+use Rattle.lz_tree.specs.Scopes.{Program}
+use Rattle.lz_model.specs.declared.action.Event.{Event}
+use Rattle.lz_model.specs.declared.schedule.Step.{Step}
+use Rattle.lz_model.specs.SharedState.{opening}
+use Rattle.lz_model.specs.Runs.{broken, course, IsRun}
+use Rattle.lz_model.specs.Rounds.{rounds_of}
+
+-- the run ends in a check that breaks, of this kind and on this line
+pub record IsBrokenRun (p : Program) (n : ℕ) (run : List Event) (kind : BreakKind) (line : ℕ) : Type 0 where
+  pub is : IsRun p n run
+  pub breaks : course run (opening p) ≡ broken kind line
+
+-- the rounds of a run
+abbrev pub rounds_of_run : List Event → ℕ
+rounds_of_run run = rounds_of (map (λ event. event.thread) run)
+
+-- some broken run has at most k rounds
+abbrev pub Violated : Program → ℕ → ℕ → Type 0
+Violated p n k =
+    (run : List Event) × (kind : BreakKind) × (line : ℕ) × IsBrokenRun p n run kind line × (rounds_of_run run ≤ k)
+
+-- the step that stands for an event. No action that there is has a choice
+abbrev pub step_of : Event → Step
+step_of event = record { thread = event.thread; choice = 0 }
+
+-- the run follows the schedule
+abbrev pub Follows : List Event → List Step → Type 0
+Follows run schedule = map step_of run ≡ schedule
