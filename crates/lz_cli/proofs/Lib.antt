@@ -1,0 +1,5 @@
+pub mod Courses
+pub mod Compose
+pub mod Evaluations
+pub mod Executions
+pub mod Decisions

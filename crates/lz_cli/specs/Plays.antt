@@ -1,0 +1,88 @@
+-- The course of code that has no choice: what thread 0 does from a state in which no other thread is made.
+-- Such code has one maximal course, and every trace of it that goes is a beginning of that course.
+use Rattle.std.specs.Prelude.{◌≡◌, ◌≢◌, ℕ, false, ◌<◌, List, [], ◌++◌, map, ⊤}
+use Rattle.lz_base.specs.declared.word.BreakKind.{BreakKind}
+use Rattle.lz_model.specs.declared.action.Event.{Event}
+use Rattle.lz_model.specs.declared.schedule.Step.{Step}
+use Rattle.lz_tree.specs.declared.scoped.Object.{Object}
+use Rattle.lz_tree.specs.declared.scoped.Object.TheVariants.{Cell}
+use Rattle.lz_tree.specs.Scopes.{Expression, Statement, Program}
+use Rattle.lz_model.specs.Traces.{Act, Outcome, done, cut, Behaviour, expression_trace, statements_trace, normal}
+use Rattle.lz_model.specs.SharedState.{State}
+use Rattle.lz_model.specs.Runs.{going, stuck, broken, course}
+use Rattle.lz_model.specs.Rounds.{rounds_of}
+use Rattle.lz_model.specs.Violation.{step_of, Violated, IsBrokenRun, Follows}
+use Rattle.lz_cli.specs.declared.decide.Evaluated.{Evaluated}
+use Rattle.lz_cli.specs.declared.decide.Evaluated.TheVariants.{Done, Broke}
+use Rattle.lz_cli.specs.declared.decide.Executed.{Executed}
+use Rattle.lz_cli.specs.declared.decide.Executed.TheVariants as executed
+use Rattle.lz_cli.specs.declared.decide.Decided.{Decided}
+use Rattle.lz_cli.specs.declared.decide.Decided.TheVariants.{Holds, Broken}
+
+-- the state of a process that has thread 0 alone, and goes on
+abbrev pub running : List ℕ → State
+running cells = record { cells = cells; made = 0; ended = []; over = false }
+
+-- an action of thread 0
+abbrev pub main_event : Act → Event
+main_event act = record { thread = 0; action = act.action; line = act.line }
+
+abbrev pub main_events : List Act → List Event
+main_events acts = map main_event acts
+
+-- the steps that a schedule has for the actions
+abbrev pub main_steps : List Act → List Step
+main_steps acts = map step_of (main_events acts)
+
+-- The code does these actions, each of which goes, and is done with the value in the later state.
+pub record Goes {A : Type 0} (code : Behaviour A) (state : State) (acts : List Act) (value : A) (later : State) : Type 0 where
+  pub trace : code [] acts [] (done value)
+  pub goes : course (main_events acts) state ≡ going later
+  -- no trace breaks a check
+  pub safe : (some : List Act) (locals : List ℕ) (outcome : Outcome A) → code [] some locals outcome
+      → (kind : BreakKind) (line : ℕ) → course (main_events some) state ≢ broken kind line
+  -- a trace that is done and is not stuck is this one
+  pub only : (some : List Act) (locals : List ℕ) (other : A) → code [] some locals (done other)
+      → course (main_events some) state ≢ stuck → (some ≡ acts) × (locals ≡ []) × (other ≡ value)
+
+-- The code does these actions, of which the last breaks a check.
+pub record Breaks {A : Type 0} (code : Behaviour A) (state : State) (acts : List Act) (kind : BreakKind) (line : ℕ) : Type 0 where
+  pub locals : List ℕ
+  pub trace : code [] acts locals cut
+  pub breaks : course (main_events acts) state ≡ broken kind line
+
+-- The code is done with a value: the cells before and after, and the steps of the schedule so far and then.
+abbrev pub Comes : {A : Type 0} → Behaviour A → List ℕ → List ℕ → List Step → List Step → A → Type 0
+Comes code before after steps later value =
+    (acts : List Act) × Goes code (running before) acts value (running after) × (later ≡ steps ++ main_steps acts)
+
+-- the code breaks a check
+abbrev pub ComesToBreak : {A : Type 0} → Behaviour A → List ℕ → List Step → List Step → BreakKind → ℕ → Type 0
+ComesToBreak code before steps later kind line =
+    (acts : List Act) × Breaks code (running before) acts kind line × (later ≡ steps ++ main_steps acts)
+
+-- how the evaluation of an expression came out, whatever the bound on turns of loops
+unfoldable pub Evaluates : Expression → List ℕ → List ℕ → List Step → List Step → Evaluated → Type 0
+Evaluates e before after steps later (Done value) = (n : ℕ) → Comes (expression_trace n e) before after steps later value
+Evaluates e before after steps later (Broke kind line) = (n : ℕ) → ComesToBreak (expression_trace n e) before steps later kind line
+
+-- how statements came out
+unfoldable pub Executes : List Statement → List ℕ → List ℕ → List Step → List Step → Executed → Type 0
+Executes body before after steps later executed.Done = (n : ℕ) → Comes (statements_trace n body) before after steps later normal
+Executes body before after steps later (executed.Broke kind line) = (n : ℕ) → ComesToBreak (statements_trace n body) before steps later kind line
+
+-- The verdict on a program is right: it holds where the program is not violated within any bounds; it is
+-- broken where some run follows the schedule, breaks a check as it says, and takes one round.
+abbrev pub Decides : Program → Decided → Type 0
+Decides p Holds = (n k : ℕ) → Violated p n k → ⊥
+Decides p (Broken schedule kind line) =
+    (n : ℕ) → (run : List Event) × IsBrokenRun p n run kind line × Follows run schedule × (rounds_of (map (λ step. step.thread) schedule) ≡ 1)
+
+-- the number of an object's cell
+abbrev pub cell_number : Object → ℕ
+cell_number (Cell first) = first
+
+-- the value that was found is a word
+abbrev pub HasWord : Evaluated → Type 0
+HasWord (Done value) = value < 4294967296
+HasWord (Broke kind line) = ⊤

@@ -1,0 +1,173 @@
+//! The decision of a program that has no choice, by evaluation. Such a program has one maximal run, and
+//! every run of it is a beginning of that one.
+
+ghost use Rattle.std.specs.Prelude.{◌≡◌, ◌<◌, ◌^◌, ◌++◌, length, map, All, IfOk, OnOk};
+ghost use Rattle.std.specs.List.{AllByRecursion};
+ghost use Rattle.lz_tree.specs.Scopes.{expression, eval, statement, program, IsExpressionOf, IsStatementOf, IsWellFormed};
+ghost use Rattle.lz_cli.specs.Plays.{Evaluates, Executes, HasWord, cell_number, Decides};
+
+use lz_base::{BreakKind, Memory, Value, binary};
+use lz_model::{Schedule, Step};
+use lz_tree::{Object, Scoped, ScopedExpr, ScopedStmt};
+use std::alloc::Global;
+
+/// How an expression came out.
+#[derive(Clone, Copy)]
+enum Evaluated {
+    Done { value: Value },
+    Broke { kind: BreakKind, line: u32 },
+}
+
+/// The step of a schedule for an action of `main` that has no choice.
+const MAIN_STEP: Step = Step {
+    thread: 0,
+    choice: 0,
+};
+
+/// The number of an object's cell.
+fn cell_of(object: Object) -> u32
+    ensures { result ≡ cell_number object }
+{
+    match object {
+        Object::Cell { first } => first,
+    }
+}
+
+/// Evaluates an expression, in the order of its trace. A step is added for each action.
+fn evaluate(
+    expr: &ScopedExpr,
+    cells: &mut [Value],
+    steps: &mut Schedule,
+) -> Result<Evaluated, Memory>
+    requires within { IsExpressionOf (length cells.old) (expression expr.now) }
+    requires words { All (λ word. word < 4294967296) cells.old }
+    ensures evaluates { IfOk result (λ came. Evaluates (expression expr.now) cells.old cells.new steps.old steps.new came) }
+    ensures words { OnOk result (All (λ word. word < 4294967296) cells.new) }
+    ensures value { IfOk result HasWord }
+{
+    match expr {
+        ScopedExpr::Constant { line: _, value } => Ok(Evaluated::Done { value: *value }),
+        ScopedExpr::Read { line: _, object } => {
+            let cell = cell_of(*object);
+            steps.push(MAIN_STEP)?;
+            let value = cells[cell as usize];
+            Ok(Evaluated::Done { value })
+        }
+        ScopedExpr::Binary {
+            line: _,
+            op,
+            kind,
+            left,
+            right,
+        } => {
+            let a = match evaluate(left, cells, steps)? {
+                Evaluated::Done { value } => value,
+                Evaluated::Broke { kind, line } => return Ok(Evaluated::Broke { kind, line }),
+            };
+            let b = match evaluate(right, cells, steps)? {
+                Evaluated::Done { value } => value,
+                Evaluated::Broke { kind, line } => return Ok(Evaluated::Broke { kind, line }),
+            };
+            Ok(Evaluated::Done {
+                value: binary(*op, a, b, *kind),
+            })
+        }
+        ScopedExpr::Assign {
+            line: _,
+            object,
+            value,
+        } => {
+            let value = match evaluate(value, cells, steps)? {
+                Evaluated::Done { value } => value,
+                Evaluated::Broke { kind, line } => return Ok(Evaluated::Broke { kind, line }),
+            };
+            let cell = cell_of(*object);
+            steps.push(MAIN_STEP)?;
+            cells[cell as usize] = value;
+            Ok(Evaluated::Done { value })
+        }
+        ScopedExpr::Call {
+            line,
+            name: _,
+            argument,
+        } => {
+            let value = match evaluate(argument, cells, steps)? {
+                Evaluated::Done { value } => value,
+                Evaluated::Broke { kind, line } => return Ok(Evaluated::Broke { kind, line }),
+            };
+            steps.push(MAIN_STEP)?;
+            if value == 0 {
+                return Ok(Evaluated::Broke {
+                    kind: BreakKind::Assert,
+                    line: *line,
+                });
+            }
+            Ok(Evaluated::Done { value: 0 })
+        }
+    }
+}
+
+/// How statements came out.
+#[derive(Clone, Copy)]
+enum Executed {
+    Done,
+    Broke { kind: BreakKind, line: u32 },
+}
+
+/// The expression that a statement evaluates.
+fn expression_of(next: &ScopedStmt) -> &ScopedExpr
+    ensures { statement next.now ≡ eval (expression result.now) }
+{
+    match next {
+        ScopedStmt::Eval { value } => value,
+    }
+}
+
+/// Executes statements one after the other, up to a check that breaks.
+fn execute(
+    body: &[ScopedStmt],
+    cells: &mut [Value],
+    steps: &mut Schedule,
+) -> Result<Executed, Memory>
+    requires within { AllByRecursion (IsStatementOf (length cells.old)) (map statement body.now) }
+    requires words { All (λ word. word < 4294967296) cells.old }
+    ensures { IfOk result (λ came. Executes (map statement body.now) cells.old cells.new steps.old steps.new came) }
+{
+    for next in body {
+        match evaluate(expression_of(next), cells, steps)? {
+            Evaluated::Done { value: _ } => {}
+            Evaluated::Broke { kind, line } => return Ok(Executed::Broke { kind, line }),
+        }
+    }
+    Ok(Executed::Done)
+}
+
+/// The verdict on a program.
+#[derive(Debug, Drop)]
+pub enum Decided {
+    /// No run of it breaks a check.
+    Holds,
+    /// A run that follows this schedule breaks a check of this kind on this line.
+    Broken {
+        schedule: Schedule,
+        kind: BreakKind,
+        line: u32,
+    },
+}
+
+/// Decides a program of the first form. Linear in its text.
+pub fn decide(alloc: Global, scoped: &Scoped) -> Result<Decided, Memory>
+    requires { IsWellFormed (program scoped.now) }
+    ensures { IfOk result (Decides (program scoped.now)) }
+{
+    let mut cells = Vec::from_slice(alloc, scoped.cells.items())?;
+    let mut steps = Schedule::new(alloc);
+    match execute(scoped.main.items(), &mut cells, &mut steps)? {
+        Executed::Done => Ok(Decided::Holds),
+        Executed::Broke { kind, line } => Ok(Decided::Broken {
+            schedule: steps,
+            kind,
+            line,
+        }),
+    }
+}
