@@ -55,6 +55,7 @@ fn reads_from_memory(rt: HostRuntime) -> Result<(), Fail> {
 }
 
 // Gives one byte at a time, and fails at one call.
+#[derive(Drop)]
 struct Dripping<'a> {
     content: &'a [u8],
     call: u64,
