@@ -1,11 +1,7 @@
 -- What a sink gains by two writes.
-use Rattle.std.proofs.Common.{◌≡◌, ℕ, ◌+◌, ◌≤◌, List, [], ◌++◌, length, ◌-◌, Option, Some, None, take, drop, ap, sym, ◌∙◌, append_assoc, append-nil, subst, arith}
+use Rattle.std.proofs.Common.{◌≡◌, ℕ, ◌+◌, ◌≤◌, List, ◌++◌, length, ◌-◌, Option, Some, None, take, drop, ap, ◌∙◌, append_assoc, subst, arith}
 use Rattle.std.proofs.lemmas.List.{take-append-drop, take-take, drop-take, take_rest}
 use Rattle.lz_outside.specs.Written.{Gains}
-
-pub Gains-nothing : (told : Option (List ℕ)) → Gains told told []
-Gains-nothing None = tt
-Gains-nothing (Some w) = ap (λ (x : List ℕ). Some x) (sym (append-nil w))
 
 pub Gains-append : (a b c : Option (List ℕ)) (xs ys : List ℕ) → Gains a b xs → Gains b c ys → Gains a c (xs ++ ys)
 Gains-append None b c xs ys h k = tt

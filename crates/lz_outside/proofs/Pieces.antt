@@ -1,12 +1,8 @@
 -- What the pieces of a file make, one after another.
-use Rattle.std.proofs.Common.{◌≡◌, ℕ, ◌+◌, ◌-◌, ◌<◌, ◌≤◌, List, [], ◌++◌, Option, Some, None, length, take, drop, refl, ap, sym, ◌∙◌, subst, arith, inl, inr, length-append, length-take, length-drop, append-nil}
+use Rattle.std.proofs.Common.{◌≡◌, ℕ, ◌+◌, ◌<◌, ◌≤◌, List, ◌++◌, Option, Some, None, length, take, drop, ap, sym, ◌∙◌, subst, arith, inl, inr, length-append, length-take, length-drop, append-nil}
 use Rattle.std.proofs.lemmas.List.{take_all, take_at, length-take-le}
 use Rattle.lz_outside.proofs.Gained.{take-add}
-use Rattle.lz_outside.specs.Files.{FileMap, BeginsWith, GivesPiece, Holds, IsLonger, IsPieceOf, Lacks}
-
-pub BeginsWith-nothing : (files : Option FileMap) (name : List ℕ) → BeginsWith files name []
-BeginsWith-nothing None name = tt
-BeginsWith-nothing (Some told) name = λ content h. refl
+use Rattle.lz_outside.specs.Files.{FileMap, BeginsWith, GivesPiece, Holds, IsPieceOf}
 
 -- one name has one content
 same_content : (o : Option (List ℕ)) (a b : List ℕ) → o ≡ Some a → o ≡ Some b → a ≡ b
@@ -66,17 +62,3 @@ Holds-at_end (Some told) name bytes more place n before after e m z s b p =
     let t : bytes ≡ p.0 = b p.0 p.1 ∙ take_all (length bytes) p.0 l in
     let a : more ≡ bytes = m ∙ ap (λ (x : ℕ). bytes ++ take x after) z ∙ append-nil bytes in
     p.1 ∙ ap (λ (x : List ℕ). Some x) (sym (a ∙ t))
-
-pub IsLonger-at : (files : Option FileMap) (name : List ℕ) (place n limit : ℕ) (before after : List ℕ) →
-    place ≤ limit → limit - place < n → GivesPiece files name place n before after → IsLonger files name limit
-IsLonger-at None name place n limit before after l m p = tt
-IsLonger-at (Some told) name place n limit before after l m p =
-    (p.0, p.1, elim p.2.within [ inl h ↦ omega arith | inr h ↦ omega arith ])
-
-pub Lacks-not_Holds : (files : Option FileMap) (name bytes : List ℕ) → Lacks files name → Holds files name bytes → ⊥
-Lacks-not_Holds None name bytes l h = l
-Lacks-not_Holds (Some told) name bytes l h = cc
-
-pub Lacks-not_IsLonger : (files : Option FileMap) (name : List ℕ) (limit : ℕ) → Lacks files name → IsLonger files name limit → ⊥
-Lacks-not_IsLonger None name limit l h = l
-Lacks-not_IsLonger (Some told) name limit l h = let e : told name ≡ Some h.0 = h.1 in cc

@@ -10,6 +10,11 @@ abbrev pub Lacks : Option FileMap → List ℕ → Type 0
 Lacks None name = ⊥
 Lacks (Some told) name = told name ≡ None
 
+-- the folder tells that the file of the name holds these bytes
+abbrev pub Tells : Option FileMap → List ℕ → List ℕ → Type 0
+Tells None name bytes = ⊥
+Tells (Some told) name bytes = told name ≡ Some bytes
+
 -- where the folder tells its files, the file of the name holds these bytes
 abbrev pub Holds : Option FileMap → List ℕ → List ℕ → Type 0
 Holds None name bytes = ⊤

@@ -1,7 +1,7 @@
-ghost use Rattle.std.specs.Prelude.{◌≡◌, ◌⊎◌, ◌↔◌, ℕ, ◌+◌, ◌-◌, ◌^◌, ◌≤◌, ◌<◌, List, Option, Some, None, min, length, IfOk, OnOk, OnErr, IsOk, IsErr, IsTrue, Contains};
+ghost use Rattle.std.specs.Prelude.{◌≡◌, ◌⊎◌, ◌↔◌, ℕ, ◌+◌, ◌-◌, ◌^◌, ◌≤◌, ◌<◌, List, Option, Some, None, min, length, IfOk, IfSome, OnOk, OnErr, IsOk, IsErr, IsTrue, Contains};
 ghost use Rattle.std.specs.Option.{option_copied};
 ghost use Rattle.lz_outside.specs.Faults.{Rose};
-ghost use Rattle.lz_outside.specs.Files.{GivesPiece, IsPieceOf, Lacks};
+ghost use Rattle.lz_outside.specs.Files.{IsPieceOf};
 ghost use Rattle.lz_outside.specs.MemoryFolder.{FolderState, HaveOwnNames, content_of};
 
 use crate::calls::{Calls, is_listed, raised};
@@ -70,17 +70,20 @@ impl Folder for MemoryFolder {
 
     ghost read_faults = { λ folder. folder.read_faults };
 
-    /// As the trait says. It fails exactly where the call is listed, which raises the count, and where
-    /// no file has the name.
+    /// As the trait says, and it gives as many bytes as there are and as fit. It fails exactly where the
+    /// call is listed, which raises the count, and where no file has the name. It takes no memory.
     fn read_piece(&mut self, name: &str, place: u64, into: &mut [u8]) -> Result<usize, Failed>
         ensures count { IfOk result (λ n. n ≤ length into.old) }
-        ensures piece { IfOk result (λ n. GivesPiece (Some (content_of self.old.listing)) name.now place n into.old into.new) }
+        ensures piece { IfOk result (λ n. (content : List ℕ) × (content_of self.old.listing name.now ≡ Some content)
+            × IsPieceOf content place n into.old into.new) }
         ensures calm { OnOk result (self.new.read_faults ≡ self.old.read_faults) }
         ensures failed { OnErr result (Rose self.old.read_faults self.new.read_faults
-            ⊎ Lacks (Some (content_of self.old.listing)) name.now) }
+            ⊎ (content_of self.old.listing name.now ≡ None)) }
         ensures counts { self.old.read_faults ≤ self.new.read_faults }
         ensures keeps_files { self.new.listing ≡ self.old.listing }
 
+        ensures whole { IfOk result (λ n. IfSome (content_of self.old.listing name.now)
+            (λ content. n ≡ min (length into.old) (length content - place))) }
         ensures cause { IsErr result ↔ (Contains self.old.fails self.old.calls
             ⊎ (content_of self.old.listing name.now ≡ None)) }
         ensures raised { Contains self.old.fails self.old.calls
@@ -118,6 +121,7 @@ fn find_content<'a>(files: &'a [File], name: &str) -> Option<&'a [u8]>
 // Copies bytes of the content from the place on, as many as there are and as fit.
 fn copy_piece(content: &[u8], place: u64, into: &mut [u8]) -> usize
     ensures count { result ≤ length into.old }
+    ensures whole { result ≡ min (length into.old) (length content.now - place) }
     ensures piece { IsPieceOf content.now place result into.old into.new }
 {
     let start = place as usize;

@@ -1,6 +1,6 @@
-ghost use Rattle.std.specs.Prelude.{◌≡◌, ◌⊎◌, ◌<◌, ◌≤◌, length, false, Ok, Err, OnOk, IfOk, IsTrue};
+ghost use Rattle.std.specs.Prelude.{◌≡◌, ◌⊎◌, ◌<◌, ◌≤◌, ℕ, List, length, IsErr, false, Ok, Err, OnOk, IfOk, IsTrue};
 ghost use Rattle.lz_outside.specs.Faults.{Rose};
-ghost use Rattle.lz_outside.specs.Files.{Holds, IsLonger, Lacks, BeginsWith};
+ghost use Rattle.lz_outside.specs.Files.{BeginsWith, Holds, IsLonger, Lacks, Tells};
 
 use crate::folder::Folder;
 use lz_base::{Bytes, Memory};
@@ -46,6 +46,8 @@ pub fn read_all<F: Folder>(
         ⊎ Lacks (F.files folder.old) name.now }
     ensures too_long { result ≡ Err ReadError.TooLong → IsLonger (F.files folder.old) name.now limit }
     ensures missing { Lacks (F.files folder.old) name.now → result ≡ Err ReadError.Fault }
+    ensures long { (content : List ℕ) → Tells (F.files folder.old) name.now content
+        → limit < length content → IsErr result }
 
     ensures keeps_files { F.files folder.new ≡ F.files folder.old }
     ensures counts { F.read_faults folder.old ≤ F.read_faults folder.new }
