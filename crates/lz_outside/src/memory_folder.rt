@@ -90,6 +90,7 @@ impl Folder for MemoryFolder {
             → self.new.read_faults ≡ min (self.old.read_faults + 1) (2 ^ 64 - 1) }
         ensures not_raised { (Contains self.old.fails self.old.calls → ⊥)
             → self.new.read_faults ≡ self.old.read_faults }
+        ensures keeps_buffer { OnErr result (into.new ≡ into.old) }
         ensures counted { self.new.calls ≡ min (self.old.calls + 1) (2 ^ 64 - 1) }
         ensures same_fails { self.new.fails ≡ self.old.fails }
     {

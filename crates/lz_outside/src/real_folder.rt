@@ -40,7 +40,8 @@ impl<R: Files> Folder for RealFolder<R> {
     ghost read_faults = { λ folder. folder };
 
     /// Opens the file, seeks to the place and reads once (POSIX.1-2017 open, lseek, read). Each error
-    /// raises the count, a missing name among them.
+    /// raises the count, a missing name among them, and so does a read that a signal interrupts. A name
+    /// where nothing can be sought, as that of a pipe, fails.
     fn read_piece(&mut self, name: &str, place: u64, into: &mut [u8]) -> Result<usize, Failed> {
         match read_at(&self.runtime, name, place, into) {
             Ok(count) => Ok(count),

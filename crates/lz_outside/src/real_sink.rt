@@ -35,8 +35,8 @@ impl<R: Print> Sink for RealSink<R> {
 
     ghost faults = { λ sink. sink };
 
-    /// Writes once, past any buffer (POSIX.1-2017 write). Each error raises the count, and so does a
-    /// write of 0 bytes of a piece that is not empty.
+    /// Writes once, past any buffer (POSIX.1-2017 write). Each error raises the count, and so do a write
+    /// that a signal interrupts and a write of 0 bytes of a piece that is not empty.
     fn put(&mut self, piece: &[u8]) -> Result<usize, Failed> {
         match write_some(&self.runtime, piece) {
             Some(count) => Ok(count),
