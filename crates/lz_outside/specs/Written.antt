@@ -1,0 +1,11 @@
+-- What a sink has gained. A sink tells what was written to it, or tells nothing.
+use Rattle.std.specs.Prelude.{◌≡◌, ℕ, ◌≤◌, List, ◌++◌, length, take, Option, Some, None, ⊤}
+
+-- where the sink told what was written, it tells these bytes more at the end
+abbrev pub Gains : Option (List ℕ) → Option (List ℕ) → List ℕ → Type 0
+Gains None after bytes = ⊤
+Gains (Some before) after bytes = after ≡ Some (before ++ bytes)
+
+-- the sink has gained some front of these bytes
+abbrev pub GainsPrefix : Option (List ℕ) → Option (List ℕ) → List ℕ → Type 0
+GainsPrefix before after bytes = (k : ℕ) × (k ≤ length bytes) × Gains before after (take k bytes)

@@ -1,0 +1,27 @@
+//! The outside of lazycheck: folders that files are read from and sinks that reports are written to,
+//! over memory for tests and over the system for `main`, and the calls that read a whole file and
+//! write a whole report through them.
+#![tactic(auto)]
+
+mod calls;
+mod folder;
+mod memory_folder;
+mod memory_sink;
+mod reading;
+mod real_folder;
+mod real_sink;
+mod sink;
+mod writing;
+
+pub use calls::Calls;
+pub use folder::{Failed, Folder};
+pub use memory_folder::{File, Files, MemoryFolder};
+pub use memory_sink::MemorySink;
+pub use reading::{ReadError, read_all};
+pub use real_folder::RealFolder;
+pub use real_sink::RealSink;
+pub use sink::Sink;
+pub use writing::write_all;
+
+#[cfg(test)]
+mod tests;
