@@ -18,35 +18,35 @@ Goes-then {A} {B} code next state middle later xs ys a b p q = record {
   safe = λ some locals outcome trace kind line e. unbroken some locals outcome trace kind line e;
   only = λ some locals other trace goes. one some locals other trace goes;
 }
-    where
-      unbroken : (some : List Act) (locals : List ℕ) (outcome : Outcome B) → (code and_then next) [] some locals outcome → (kind : BreakKind) (line : ℕ) → course (main_events some) state ≢ broken kind line
-      unbroken some locals outcome (inl t) kind line e = p.safe some locals cut t.0 kind line e
-      unbroken some locals outcome (inr t) kind line e =
-          let front = t.1 in let rest = t.2 in
-          let joined : course (main_events (front ++ rest)) state ≡ broken kind line = subst (λ (acts : List Act). course (main_events acts) state ≡ broken kind line) t.4 e in
-          elim (stuck_or_not (course (main_events front) state)) [
-            | inl is_stuck ↦ let s = main-append_stuck front rest state is_stuck in absurd cc
-            | inr goes ↦
-                let o = p.only front t.3 t.0 t.5 goes in
-                let r : next a [] rest locals outcome = subst (λ (l : List ℕ). next a l rest locals outcome) o.1 (subst (λ (v : A). next v t.3 rest locals outcome) o.2 t.6) in
-                let same : course (main_events front) state ≡ going middle = ap (λ (acts : List Act). course (main_events acts) state) o.0 ∙ p.goes in
-                q.safe rest locals outcome r kind line (sym (main-append_going front rest state middle same) ∙ joined)
-          ]
+  where
+    unbroken : (some : List Act) (locals : List ℕ) (outcome : Outcome B) → (code and_then next) [] some locals outcome → (kind : BreakKind) (line : ℕ) → course (main_events some) state ≢ broken kind line
+    unbroken some locals outcome (inl t) kind line e = p.safe some locals cut t.0 kind line e
+    unbroken some locals outcome (inr t) kind line e =
+        let front = t.1 in let rest = t.2 in
+        let joined : course (main_events (front ++ rest)) state ≡ broken kind line = subst (λ (acts : List Act). course (main_events acts) state ≡ broken kind line) t.4 e in
+        elim (stuck_or_not (course (main_events front) state)) [
+          | inl is_stuck ↦ let s = main-append_stuck front rest state is_stuck in absurd cc
+          | inr goes ↦
+              let o = p.only front t.3 t.0 t.5 goes in
+              let r : next a [] rest locals outcome = subst (λ (l : List ℕ). next a l rest locals outcome) o.1 (subst (λ (v : A). next v t.3 rest locals outcome) o.2 t.6) in
+              let same : course (main_events front) state ≡ going middle = ap (λ (acts : List Act). course (main_events acts) state) o.0 ∙ p.goes in
+              q.safe rest locals outcome r kind line (sym (main-append_going front rest state middle same) ∙ joined)
+        ]
 
-      one : (some : List Act) (locals : List ℕ) (other : B) → (code and_then next) [] some locals (done other) → course (main_events some) state ≢ stuck → (some ≡ xs ++ ys) × (locals ≡ []) × (other ≡ b)
-      one some locals other (inl t) goes = absurd cc
-      one some locals other (inr t) goes =
-          let front = t.1 in let rest = t.2 in
-          elim (stuck_or_not (course (main_events front) state)) [
-            | inl is_stuck ↦ absurd (goes (ap (λ (acts : List Act). course (main_events acts) state) t.4 ∙ main-append_stuck front rest state is_stuck))
-            | inr front_goes ↦
-                let o = p.only front t.3 t.0 t.5 front_goes in
-                let r : next a [] rest locals (done other) = subst (λ (l : List ℕ). next a l rest locals (done other)) o.1 (subst (λ (v : A). next v t.3 rest locals (done other)) o.2 t.6) in
-                let same : course (main_events front) state ≡ going middle = ap (λ (acts : List Act). course (main_events acts) state) o.0 ∙ p.goes in
-                let rest_goes : course (main_events rest) middle ≢ stuck = λ h. goes (ap (λ (acts : List Act). course (main_events acts) state) t.4 ∙ main-append_going front rest state middle same ∙ h) in
-                let u = q.only rest locals other r rest_goes in
-                (t.4 ∙ ap (λ (l : List Act). l ++ rest) o.0 ∙ ap (λ (l : List Act). xs ++ l) u.0, u.1, u.2)
-          ]
+    one : (some : List Act) (locals : List ℕ) (other : B) → (code and_then next) [] some locals (done other) → course (main_events some) state ≢ stuck → (some ≡ xs ++ ys) × (locals ≡ []) × (other ≡ b)
+    one some locals other (inl t) goes = absurd cc
+    one some locals other (inr t) goes =
+        let front = t.1 in let rest = t.2 in
+        elim (stuck_or_not (course (main_events front) state)) [
+          | inl is_stuck ↦ absurd (goes (ap (λ (acts : List Act). course (main_events acts) state) t.4 ∙ main-append_stuck front rest state is_stuck))
+          | inr front_goes ↦
+              let o = p.only front t.3 t.0 t.5 front_goes in
+              let r : next a [] rest locals (done other) = subst (λ (l : List ℕ). next a l rest locals (done other)) o.1 (subst (λ (v : A). next v t.3 rest locals (done other)) o.2 t.6) in
+              let same : course (main_events front) state ≡ going middle = ap (λ (acts : List Act). course (main_events acts) state) o.0 ∙ p.goes in
+              let rest_goes : course (main_events rest) middle ≢ stuck = λ h. goes (ap (λ (acts : List Act). course (main_events acts) state) t.4 ∙ main-append_going front rest state middle same ∙ h) in
+              let u = q.only rest locals other r rest_goes in
+              (t.4 ∙ ap (λ (l : List Act). l ++ rest) o.0 ∙ ap (λ (l : List Act). xs ++ l) u.0, u.1, u.2)
+        ]
 
 -- code whose first part breaks a check
 pub Breaks-first : {A B : Type 0} (code : Behaviour A) (next : A → Behaviour B) (state : State) (xs : List Act) (kind : BreakKind) (line : ℕ)
@@ -79,20 +79,20 @@ Goes-one {A} one value state later e = record {
   safe = λ some locals outcome trace kind line h. unbroken some kind line (only_one some (done value) outcome trace.1) h;
   only = λ some locals other trace goes. elim trace.1 [ inl t ↦ absurd cc | inr t ↦ (t.0, trace.0, elim t.1 [ inl f ↦ cc | inr f ↦ absurd cc ]) ];
 }
-    where
-      one_goes : course (main_events (one ∷ [])) state ≡ going later
-      one_goes = ap (λ (acted : Acted). course_after acted one.line [] (course [])) e
+  where
+    one_goes : course (main_events (one ∷ [])) state ≡ going later
+    one_goes = ap (λ (acted : Acted). course_after acted one.line [] (course [])) e
 
-      only_one : (some : List Act) (finish outcome : Outcome A) → (((some ≡ []) × (outcome ≡ cut)) ⊎ ((some ≡ one ∷ []) × ((outcome ≡ finish) ⊎ (outcome ≡ cut)))) → (some ≡ []) ⊎ (some ≡ one ∷ [])
-      only_one some finish outcome (inl t) = inl t.0
-      only_one some finish outcome (inr t) = inr t.0
+    only_one : (some : List Act) (finish outcome : Outcome A) → (((some ≡ []) × (outcome ≡ cut)) ⊎ ((some ≡ one ∷ []) × ((outcome ≡ finish) ⊎ (outcome ≡ cut)))) → (some ≡ []) ⊎ (some ≡ one ∷ [])
+    only_one some finish outcome (inl t) = inl t.0
+    only_one some finish outcome (inr t) = inr t.0
 
-      unbroken : (some : List Act) (kind : BreakKind) (line : ℕ) → (some ≡ []) ⊎ (some ≡ one ∷ []) → course (main_events some) state ≢ broken kind line
-      unbroken some kind line (inl t) h =
-          let bad : course (main_events []) state ≡ broken kind line = subst (λ (acts : List Act). course (main_events acts) state ≡ broken kind line) t h in absurd cc
-      unbroken some kind line (inr t) h =
-          let bad : course (main_events (one ∷ [])) state ≡ broken kind line = subst (λ (acts : List Act). course (main_events acts) state ≡ broken kind line) t h in
-          let both : going later ≡ broken kind line = sym one_goes ∙ bad in absurd cc
+    unbroken : (some : List Act) (kind : BreakKind) (line : ℕ) → (some ≡ []) ⊎ (some ≡ one ∷ []) → course (main_events some) state ≢ broken kind line
+    unbroken some kind line (inl t) h =
+        let bad : course (main_events []) state ≡ broken kind line = subst (λ (acts : List Act). course (main_events acts) state ≡ broken kind line) t h in absurd cc
+    unbroken some kind line (inr t) h =
+        let bad : course (main_events (one ∷ [])) state ≡ broken kind line = subst (λ (acts : List Act). course (main_events acts) state ≡ broken kind line) t h in
+        let both : going later ≡ broken kind line = sym one_goes ∙ bad in absurd cc
 
 -- a check of 0
 pub Breaks-check : (line : ℕ) (kind : BreakKind) (cells : List ℕ)
@@ -118,38 +118,38 @@ Goes-read line cell cells word = record {
   safe = λ some locals outcome trace kind where_ h. unbroken some trace.0 kind where_ (some_of some trace.0 outcome trace.2.1) h;
   only = λ some locals other trace goes. one some locals other trace goes;
 }
-    where
-      at : ℕ → Act
-      at value = record { action = Rd cell value; line = line }
+  where
+    at : ℕ → Act
+    at value = record { action = Rd cell value; line = line }
 
-      found : (value : ℕ) → value ≡ slice_index cells cell → course (main_events (record { action = Rd cell value; line = line } ∷ [])) (running cells) ≡ going (running cells)
-      found value e = ap (λ (same : Bool). course_after (cond same (went (running cells)) blocked) line [] (course [])) (eq-eqb value (slice_index cells cell) e)
+    found : (value : ℕ) → value ≡ slice_index cells cell → course (main_events (record { action = Rd cell value; line = line } ∷ [])) (running cells) ≡ going (running cells)
+    found value e = ap (λ (same : Bool). course_after (cond same (went (running cells)) blocked) line [] (course [])) (eq-eqb value (slice_index cells cell) e)
 
-      lost : (value : ℕ) (same : Bool) → course_after (cond same (went (running cells)) blocked) line [] (course []) ≢ stuck → same ≡ true
-      lost value true goes = refl
-      lost value false goes = absurd (goes refl)
+    lost : (value : ℕ) (same : Bool) → course_after (cond same (went (running cells)) blocked) line [] (course []) ≢ stuck → same ≡ true
+    lost value true goes = refl
+    lost value false goes = absurd (goes refl)
 
-      some_of : (some : List Act) (value : ℕ) (outcome : Outcome ℕ) → (((some ≡ []) × (outcome ≡ cut)) ⊎ ((some ≡ record { action = Rd cell value; line = line } ∷ []) × ((outcome ≡ done value) ⊎ (outcome ≡ cut)))) → (some ≡ []) ⊎ (some ≡ record { action = Rd cell value; line = line } ∷ [])
-      some_of some value outcome (inl t) = inl t.0
-      some_of some value outcome (inr t) = inr t.0
+    some_of : (some : List Act) (value : ℕ) (outcome : Outcome ℕ) → (((some ≡ []) × (outcome ≡ cut)) ⊎ ((some ≡ record { action = Rd cell value; line = line } ∷ []) × ((outcome ≡ done value) ⊎ (outcome ≡ cut)))) → (some ≡ []) ⊎ (some ≡ record { action = Rd cell value; line = line } ∷ [])
+    some_of some value outcome (inl t) = inl t.0
+    some_of some value outcome (inr t) = inr t.0
 
-      never_broken : (same : Bool) (kind : BreakKind) (where_ : ℕ) → course_after (cond same (went (running cells)) blocked) line [] (course []) ≢ broken kind where_
-      never_broken true kind where_ h = cc
-      never_broken false kind where_ h = cc
+    never_broken : (same : Bool) (kind : BreakKind) (where_ : ℕ) → course_after (cond same (went (running cells)) blocked) line [] (course []) ≢ broken kind where_
+    never_broken true kind where_ h = cc
+    never_broken false kind where_ h = cc
 
-      unbroken : (some : List Act) (value : ℕ) (kind : BreakKind) (where_ : ℕ) → (some ≡ []) ⊎ (some ≡ record { action = Rd cell value; line = line } ∷ []) → course (main_events some) (running cells) ≢ broken kind where_
-      unbroken some value kind where_ (inl t) h =
-          let bad : course (main_events []) (running cells) ≡ broken kind where_ = subst (λ (acts : List Act). course (main_events acts) (running cells) ≡ broken kind where_) t h in absurd cc
-      unbroken some value kind where_ (inr t) h =
-          never_broken (eqb value (slice_index cells cell)) kind where_ (subst (λ (acts : List Act). course (main_events acts) (running cells) ≡ broken kind where_) t h)
+    unbroken : (some : List Act) (value : ℕ) (kind : BreakKind) (where_ : ℕ) → (some ≡ []) ⊎ (some ≡ record { action = Rd cell value; line = line } ∷ []) → course (main_events some) (running cells) ≢ broken kind where_
+    unbroken some value kind where_ (inl t) h =
+        let bad : course (main_events []) (running cells) ≡ broken kind where_ = subst (λ (acts : List Act). course (main_events acts) (running cells) ≡ broken kind where_) t h in absurd cc
+    unbroken some value kind where_ (inr t) h =
+        never_broken (eqb value (slice_index cells cell)) kind where_ (subst (λ (acts : List Act). course (main_events acts) (running cells) ≡ broken kind where_) t h)
 
-      one : (some : List Act) (locals : List ℕ) (other : ℕ) → reads line cell [] some locals (done other) → course (main_events some) (running cells) ≢ stuck → (some ≡ record { action = Rd cell (slice_index cells cell); line = line } ∷ []) × (locals ≡ []) × (other ≡ slice_index cells cell)
-      one some locals other trace goes =
-          let value = trace.0 in
-          elim trace.2.1 [
-            | inl t ↦ absurd cc
-            | inr t ↦
-                let moves : course_after (cond (eqb value (slice_index cells cell)) (went (running cells)) blocked) line [] (course []) ≢ stuck = λ h. goes (ap (λ (acts : List Act). course (main_events acts) (running cells)) t.0 ∙ h) in
-                let same : value ≡ slice_index cells cell = eqb-true value (slice_index cells cell) (lost value (eqb value (slice_index cells cell)) moves) in
-                (t.0 ∙ ap (λ (v : ℕ). record { action = Rd cell v; line = line } ∷ []) same, trace.2.0, elim t.1 [ inl f ↦ let g : other ≡ value = cc in g ∙ same | inr f ↦ absurd cc ])
-          ]
+    one : (some : List Act) (locals : List ℕ) (other : ℕ) → reads line cell [] some locals (done other) → course (main_events some) (running cells) ≢ stuck → (some ≡ record { action = Rd cell (slice_index cells cell); line = line } ∷ []) × (locals ≡ []) × (other ≡ slice_index cells cell)
+    one some locals other trace goes =
+        let value = trace.0 in
+        elim trace.2.1 [
+          | inl t ↦ absurd cc
+          | inr t ↦
+              let moves : course_after (cond (eqb value (slice_index cells cell)) (went (running cells)) blocked) line [] (course []) ≢ stuck = λ h. goes (ap (λ (acts : List Act). course (main_events acts) (running cells)) t.0 ∙ h) in
+              let same : value ≡ slice_index cells cell = eqb-true value (slice_index cells cell) (lost value (eqb value (slice_index cells cell)) moves) in
+              (t.0 ∙ ap (λ (v : ℕ). record { action = Rd cell v; line = line } ∷ []) same, trace.2.0, elim t.1 [ inl f ↦ let g : other ≡ value = cc in g ∙ same | inr f ↦ absurd cc ])
+        ]

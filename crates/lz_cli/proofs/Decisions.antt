@@ -26,10 +26,10 @@ made_stays : (state later : State) (thread : ℕ) (action : Action) → act_runn
 made_stays state later thread (Check zero kind) e = absurd cc
 made_stays state later thread (Check (suc value) kind) e = let same : state ≡ later = cc in ap (λ (s : State). s.made) (sym same)
 made_stays state later thread (Rd cell value) e = read_stays (eqb value (slice_index state.cells cell)) e
-    where
-      read_stays : (found : Bool) → cond found (went state) blocked ≡ went later → later.made ≡ state.made
-      read_stays true h = let same : state ≡ later = cc in ap (λ (s : State). s.made) (sym same)
-      read_stays false h = absurd cc
+  where
+    read_stays : (found : Bool) → cond found (went state) blocked ≡ went later → later.made ≡ state.made
+    read_stays true h = let same : state ≡ later = cc in ap (λ (s : State). s.made) (sym same)
+    read_stays false h = absurd cc
 made_stays state later thread (Wr cell value) e =
     let same : record state { cells = slice_set state.cells cell value } ≡ later = cc in ap (λ (s : State). s.made) (sym same)
 made_stays state later thread (End whole) e =
@@ -38,11 +38,11 @@ made_stays state later thread (End whole) e =
 -- an action of another thread is blocked while none is made
 others_blocked : (state : State) (thread : ℕ) (action : Action) → state.made ≡ 0 → act state (suc thread) action ≡ blocked
 others_blocked state thread action none = halted state.over state.made none
-    where
-      halted : (over : Bool) (made : ℕ) → made ≡ 0 → cond (over || (not (leb (suc thread) made) || list_any (λ ended. eqb ended (suc thread)) state.ended)) blocked (act_running state (suc thread) action) ≡ blocked
-      halted true made e = refl
-      halted false zero e = ap (λ (m : Bool). cond (not m || list_any (λ ended. eqb ended (suc thread)) state.ended) blocked (act_running state (suc thread) action)) (leb-suc-zero thread)
-      halted false (suc made) e = absurd (omega arith)
+  where
+    halted : (over : Bool) (made : ℕ) → made ≡ 0 → cond (over || (not (leb (suc thread) made) || list_any (λ ended. eqb ended (suc thread)) state.ended)) blocked (act_running state (suc thread) action) ≡ blocked
+    halted true made e = refl
+    halted false zero e = ap (λ (m : Bool). cond (not m || list_any (λ ended. eqb ended (suc thread)) state.ended) blocked (act_running state (suc thread) action)) (leb-suc-zero thread)
+    halted false (suc made) e = absurd (omega arith)
 
 same_event : (event : Event) → event.thread ≡ 0 → event ≡ main_event (act_of event)
 same_event event e = ap (λ (t : ℕ). record { thread = t; action = event.action; line = event.line }) e
@@ -106,13 +106,13 @@ one_round acts = ap (λ (d : ℕ). d + 1) (no_descents acts)
 
 pub breaks_run : (p : Program) (n : ℕ) (acts : List Act) (kind : BreakKind) (line : ℕ) → Breaks (main_trace p n) (opening p) acts kind line → IsBrokenRun p n (main_events acts) kind line
 breaks_run p n acts kind line b = record { is = record { parts = traces; goes = not_stuck }; breaks = b.breaks }
-    where
-      traces : (thread : ℕ) → IsTrace p n thread (part thread (main_events acts))
-      traces zero = (b.locals, cut, subst (λ (mine : List Act). main_trace p n [] mine b.locals cut) (sym (part_main acts)) b.trace)
-      traces (suc thread) = part_others thread acts
+  where
+    traces : (thread : ℕ) → IsTrace p n thread (part thread (main_events acts))
+    traces zero = (b.locals, cut, subst (λ (mine : List Act). main_trace p n [] mine b.locals cut) (sym (part_main acts)) b.trace)
+    traces (suc thread) = part_others thread acts
 
-      not_stuck : course (main_events acts) (opening p) ≢ stuck
-      not_stuck h = let both : broken kind line ≡ stuck = sym b.breaks ∙ h in absurd cc
+    not_stuck : course (main_events acts) (opening p) ≢ stuck
+    not_stuck h = let both : broken kind line ≡ stuck = sym b.breaks ∙ h in absurd cc
 
 -- ---- the verdicts
 

@@ -50,7 +50,6 @@ pub constant_done : (line value : ℕ) (cells : List ℕ) (steps : List Step) �
 unfolding Evaluates
 constant_done line value cells steps n = Comes-nothing value cells steps
 
-
 pub read_done : (line : ℕ) (object : Object) (cells : List ℕ) (s0 s1 : List Step) (value : ℕ) → value ≡ slice_index cells (cell_number object) → value < 4294967296
     → s1 ≡ s0 ++ record { thread = 0; choice = 0 } ∷ [] → Evaluates (read line object) cells cells s0 s1 (Done value)
 unfolding Evaluates

@@ -3,3 +3,5 @@ pub mod Compose
 pub mod Evaluations
 pub mod Executions
 pub mod Decisions
+pub mod Evidences
+pub mod Verdicts

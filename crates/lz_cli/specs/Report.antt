@@ -1,0 +1,56 @@
+-- The report of an ending, to the byte, and its status.
+use Rattle.std.specs.Prelude.{ℕ, ◌<◌, List, ◌++◌, map, codes, ⊤}
+use Rattle.std.specs.List.{flat_map}
+use Rattle.std.specs.Fmt.{decimal}
+use Rattle.lz_base.specs.declared.word.BreakKind.{BreakKind}
+use Rattle.lz_base.specs.declared.word.BreakKind.TheVariants.{Assert, Bounds, DivZero, Unlock, Wait, Join, Reached}
+use Rattle.lz_model.specs.declared.schedule.Step.{Step}
+use Rattle.lz_model.specs.Rounds.{rounds_of}
+use Rattle.lz_cli.specs.declared.ending.Ending.{Ending}
+use Rattle.lz_cli.specs.declared.ending.Ending.TheVariants.{Successful, Failed, NotBuilt, FileTooLong, ReadFault, OutOfMemory}
+
+-- the word for what breaks
+abbrev pub kind_word : BreakKind → List ℕ
+kind_word Assert = codes "assert"
+kind_word Bounds = codes "bounds"
+kind_word DivZero = codes "divzero"
+kind_word Unlock = codes "unlock"
+kind_word Wait = codes "wait"
+kind_word Join = codes "join"
+kind_word Reached = codes "reached"
+
+-- one step of a schedule
+abbrev pub step_line : Step → List ℕ
+step_line step = codes "step " ++ decimal step.thread ++ codes " " ++ decimal step.choice ++ codes "\n"
+
+abbrev pub threads_of : List Step → List ℕ
+threads_of schedule = map (λ step. step.thread) schedule
+
+-- each line ends with a newline
+abbrev pub report : Ending → List ℕ
+report (Successful unwind rounds) =
+    codes "SUCCESSFUL unwind " ++ decimal unwind ++ codes " rounds " ++ decimal rounds ++ codes "\n"
+report (Failed kind line schedule) =
+    codes "FAILED\ncheck " ++ kind_word kind ++ codes " line " ++ decimal line
+    ++ codes "\nrounds " ++ decimal (rounds_of (threads_of schedule)) ++ codes "\n" ++ flat_map step_line schedule
+report (NotBuilt line) = codes "NOTBUILT line " ++ decimal line ++ codes "\n"
+report FileTooLong = codes "LIMIT file over 1048576 bytes\n"
+report (ReadFault name) = codes "READ " ++ name ++ codes "\n"
+report OutOfMemory = codes "MEMORY\n"
+
+abbrev pub status_of : Ending → ℕ
+status_of (Successful unwind rounds) = 0
+status_of (Failed kind line schedule) = 1
+status_of (NotBuilt line) = 12
+status_of FileTooLong = 5
+status_of (ReadFault name) = 6
+status_of OutOfMemory = 8
+
+-- the numbers of the report fit their types
+abbrev pub IsPrintable : Ending → Type 0
+IsPrintable (Failed kind line schedule) = rounds_of (threads_of schedule) < 4294967296
+IsPrintable (Successful unwind rounds) = ⊤
+IsPrintable (NotBuilt line) = ⊤
+IsPrintable FileTooLong = ⊤
+IsPrintable (ReadFault name) = ⊤
+IsPrintable OutOfMemory = ⊤

@@ -1,0 +1,164 @@
+//! The text of a report.
+
+ghost use Rattle.std.specs.Prelude.{◌≡◌, ◌<◌, ◌++◌, codes, OnOk, IfOk, List};
+ghost use Rattle.std.specs.List.{flat_map};
+ghost use Rattle.std.specs.Fmt.{decimal};
+ghost use Rattle.lz_model.specs.Rounds.{rounds_of};
+ghost use Rattle.lz_cli.specs.Report.{report, kind_word, step_line, threads_of, status_of, IsPrintable};
+
+use crate::ending::Ending;
+use itoa::Buffer;
+use lz_base::{BreakKind, Bytes, Memory, Name};
+use lz_model::{Schedule, Step, rounds};
+use std::alloc::Global;
+
+/// The report of an ending, to the byte: each line with a newline at its end.
+pub fn print(alloc: Global, ending: &Ending) -> Result<Bytes, Memory>
+    requires { IsPrintable ending.now }
+    ensures { IfOk result (λ text. text ≡ report ending.now) }
+{
+    match ending {
+        Ending::Successful { unwind, rounds } => successful(alloc, *unwind, *rounds),
+        Ending::Failed {
+            kind,
+            line,
+            schedule,
+        } => failed(alloc, *kind, *line, schedule),
+        Ending::NotBuilt { line } => not_built(alloc, *line),
+        Ending::FileTooLong => file_too_long(alloc),
+        Ending::ReadFault { name } => read_fault(alloc, name),
+        Ending::OutOfMemory => out_of_memory(alloc),
+    }
+}
+
+fn successful(alloc: Global, unwind: u32, rounds: u32) -> Result<Bytes, Memory>
+    ensures { IfOk result (λ text. text ≡ report (Ending.Successful unwind rounds)) }
+{
+    let mut text = Bytes::new(alloc);
+    text.append(b"SUCCESSFUL unwind ")?;
+    append_number(&mut text, u64::from(unwind))?;
+    text.append(b" rounds ")?;
+    append_number(&mut text, u64::from(rounds))?;
+    text.append(b"\n")?;
+    Ok(text)
+}
+
+fn failed(alloc: Global, kind: BreakKind, line: u32, schedule: &Schedule) -> Result<Bytes, Memory>
+    requires { rounds_of (threads_of schedule.now) < 4294967296 }
+    ensures { IfOk result (λ text. text ≡ report (Ending.Failed kind line schedule.now)) }
+{
+    let mut text = Bytes::new(alloc);
+    text.append(b"FAILED\ncheck ")?;
+    text.append(word_of(kind))?;
+    text.append(b" line ")?;
+    append_number(&mut text, u64::from(line))?;
+    text.append(b"\nrounds ")?;
+    append_number(&mut text, u64::from(rounds(schedule)))?;
+    text.append(b"\n")?;
+    append_steps(&mut text, schedule)?;
+    Ok(text)
+}
+
+fn not_built(alloc: Global, line: u32) -> Result<Bytes, Memory>
+    ensures { IfOk result (λ text. text ≡ report (Ending.NotBuilt line)) }
+{
+    let mut text = Bytes::new(alloc);
+    text.append(b"NOTBUILT line ")?;
+    append_number(&mut text, u64::from(line))?;
+    text.append(b"\n")?;
+    Ok(text)
+}
+
+fn file_too_long(alloc: Global) -> Result<Bytes, Memory>
+    ensures { IfOk result (λ text. text ≡ report Ending.FileTooLong) }
+{
+    let mut text = Bytes::new(alloc);
+    text.append(b"LIMIT file over 1048576 bytes\n")?;
+    Ok(text)
+}
+
+fn read_fault(alloc: Global, name: &Name) -> Result<Bytes, Memory>
+    ensures { IfOk result (λ text. text ≡ report (Ending.ReadFault name.now)) }
+{
+    let mut text = Bytes::new(alloc);
+    text.append(b"READ ")?;
+    text.append(name.text().as_bytes())?;
+    text.append(b"\n")?;
+    Ok(text)
+}
+
+fn out_of_memory(alloc: Global) -> Result<Bytes, Memory>
+    ensures { IfOk result (λ text. text ≡ report Ending.OutOfMemory) }
+{
+    let mut text = Bytes::new(alloc);
+    text.append(MEMORY_REPORT)?;
+    Ok(text)
+}
+
+/// The report of want of memory, which is written without taking any.
+pub const MEMORY_REPORT: &[u8] = b"MEMORY\n";
+
+/// The word for what breaks.
+fn word_of(kind: BreakKind) -> &'static [u8]
+    ensures { result.now ≡ kind_word kind }
+{
+    match kind {
+        BreakKind::Assert => b"assert",
+        BreakKind::Bounds => b"bounds",
+        BreakKind::DivZero => b"divzero",
+        BreakKind::Unlock => b"unlock",
+        BreakKind::Wait => b"wait",
+        BreakKind::Join => b"join",
+        BreakKind::Reached => b"reached",
+    }
+}
+
+/// Adds a number in decimal digits.
+fn append_number(text: &mut Bytes, number: u64) -> Result<(), Memory>
+    ensures { OnOk result (text.new ≡ text.old ++ decimal number) }
+{
+    let mut buffer = Buffer::new();
+    text.append(buffer.format(number).as_bytes())
+}
+
+/// Adds the line of a step.
+fn append_step(text: &mut Bytes, step: Step) -> Result<(), Memory>
+    ensures { OnOk result (text.new ≡ text.old ++ step_line step) }
+{
+    text.append(b"step ")?;
+    append_number(text, u64::from(step.thread))?;
+    text.append(b" ")?;
+    append_number(text, step.choice)?;
+    text.append(b"\n")
+}
+
+/// Adds the lines of a schedule.
+fn append_steps(text: &mut Bytes, schedule: &Schedule) -> Result<(), Memory>
+    ensures { OnOk result (text.new ≡ text.old ++ flat_map step_line schedule.now) }
+{
+    for step in schedule.items() {
+        append_step(text, *step)?;
+    }
+    Ok(())
+}
+
+/// The status that the command ends with.
+pub fn status(ending: &Ending) -> u8
+    ensures { result ≡ status_of ending.now }
+{
+    match ending {
+        Ending::Successful {
+            unwind: _,
+            rounds: _,
+        } => 0,
+        Ending::Failed {
+            kind: _,
+            line: _,
+            schedule: _,
+        } => 1,
+        Ending::NotBuilt { line: _ } => 12,
+        Ending::FileTooLong => 5,
+        Ending::ReadFault { name: _ } => 6,
+        Ending::OutOfMemory => 8,
+    }
+}
