@@ -1,1 +1,4 @@
 pub mod Cutting
+pub mod Lexemes
+pub mod Forms
+pub mod Tables

@@ -1,4 +1,4 @@
-ghost use Rattle.std.specs.Prelude.{◌≡◌, option_map};
+ghost use Rattle.std.specs.Prelude.{◌≡◌, ◌≤◌, length, option_map};
 ghost use Rattle.std.specs.List.{prefix_len};
 ghost use Rattle.std.specs.Char.{is_ascii_digit};
 ghost use Rattle.lz_tree.specs.Tokens.{is_blank, is_word_start, is_word_byte};
@@ -43,13 +43,15 @@ fn begins_with_word_byte(bytes: &[u8]) -> bool
 }
 
 fn word_len(bytes: &[u8]) -> usize
-    ensures { result ≡ prefix_len is_word_byte bytes.now }
+    ensures len { result ≡ prefix_len is_word_byte bytes.now }
+    ensures within { result ≤ length bytes.now }
 {
     bytes.iter().take_while(|byte| is_word_byte(**byte)).count()
 }
 
 fn digits_len(bytes: &[u8]) -> usize
-    ensures { result ≡ prefix_len is_ascii_digit bytes.now }
+    ensures len { result ≡ prefix_len is_ascii_digit bytes.now }
+    ensures within { result ≤ length bytes.now }
 {
     bytes
         .iter()
@@ -57,6 +59,7 @@ fn digits_len(bytes: &[u8]) -> usize
         .count()
 }
 
+#[tactic(auto, unfolding(crate::specs::Cutting::cut_word))]
 fn word(bytes: &[u8]) -> Option<(Piece<'_>, &[u8])>
     ensures { option_map (λ x. (piece_of x.0, x.1.now)) result ≡ cut_word bytes.now }
 {
@@ -65,6 +68,7 @@ fn word(bytes: &[u8]) -> Option<(Piece<'_>, &[u8])>
 }
 
 /// Digits, unless a letter, a digit or `_` stands behind them.
+#[tactic(auto, unfolding(crate::specs::Cutting::cut_number))]
 fn number(bytes: &[u8]) -> Option<(Piece<'_>, &[u8])>
     ensures { option_map (λ x. (piece_of x.0, x.1.now)) result ≡ cut_number bytes.now }
 {
@@ -75,6 +79,7 @@ fn number(bytes: &[u8]) -> Option<(Piece<'_>, &[u8])>
     Some((Piece::Number { digits }, rest))
 }
 
+#[tactic(auto, unfolding(crate::specs::Cutting::cut_mark, crate::specs::Cutting::cut_equal))]
 fn mark(bytes: &[u8]) -> Option<(Piece<'_>, &[u8])>
     ensures { option_map (λ x. (piece_of x.0, x.1.now)) result ≡ cut_mark bytes.now }
 {
@@ -92,6 +97,7 @@ fn mark(bytes: &[u8]) -> Option<(Piece<'_>, &[u8])>
 }
 
 /// The piece at the front, the longest that can stand there (C99 6.4), and the bytes behind it.
+#[tactic(auto, unfolding(crate::specs::Cutting::cut))]
 pub fn first_piece(bytes: &[u8]) -> Option<(Piece<'_>, &[u8])>
     ensures { option_map (λ x. (piece_of x.0, x.1.now)) result ≡ cut bytes.now }
 {

@@ -1,4 +1,4 @@
-ghost use Rattle.std.specs.Prelude.{◌≡◌, ℕ, ◌<◌, List, length, map, IfOk, IsErrOf};
+ghost use Rattle.std.specs.Prelude.{◌≡◌, List, map, IfOk, IsErrOf};
 ghost use Rattle.lz_parse.specs.declared.error.ParseError.TheVariants.{NotTheForm};
 ghost use Rattle.lz_tree.specs.Scopes.{Statement, expression, statement};
 ghost use Rattle.lz_parse.specs.Reading.{Gives};
@@ -102,8 +102,7 @@ fn statement<'a>(
     objects: &Objects,
     tokens: &'a [Token],
 ) -> Result<(ScopedStmt, &'a [Token]), ParseError>
-    ensures gives { Gives (λ x. (statement x.0, x.1.now)) result (statement_at names.now objects.now.cells.items tokens.now) }
-    ensures shorter { IfOk result (λ x. length x.1.now < length tokens.now) }
+    ensures { Gives (λ x. (statement x.0, x.1.now)) result (statement_at names.now objects.now.cells.items tokens.now) }
 {
     let (line, number, rest) = name(tokens)?;
     if is_named(names, number, "assert") {

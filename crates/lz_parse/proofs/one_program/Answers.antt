@@ -1,5 +1,6 @@
-use Rattle.lz_parse.proofs.Cutting.{cut_only, cut_stands}
+use Rattle.lz_parse.proofs.Tables.{declares}
+use Rattle.lz_parse.proofs.Forms.{one_program}
 use Rattle.lz_parse.proofs.one_program.Goals as goal
 
 pub returns : goal.returns
-returns c = ?
+returns c = one_program
