@@ -2,3 +2,8 @@ pub mod Cutting
 pub mod Lexemes
 pub mod Forms
 pub mod Tables
+pub mod Constants
+pub mod Taking
+pub mod Interning
+pub mod Errors
+pub mod Loops

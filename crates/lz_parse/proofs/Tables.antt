@@ -1,9 +1,9 @@
 -- The table of the cells by the numbers of the names, through the declarations.
-use Rattle.std.proofs.Common.{◌≡◌, ℕ, zero, suc, ◌+◌, ◌<◌, ◌≤◌, ◌≢◌, Bool, true, false, cond, eqb, List, [], ◌∷◌, ◌++◌, length, get_or, set, replicate, Option, Some, None, is_some, refl, sym, ap, subst, ◌∙◌, arith, inl, inr}
+use Rattle.std.proofs.Common.{◌≡◌, ℕ, zero, suc, ◌+◌, ◌<◌, ◌≤◌, ◌≢◌, Bool, true, false, cond, ltb, List, [], ◌∷◌, ◌++◌, length, get_or, set, replicate, Option, Some, None, is_some, refl, sym, ap, subst, ◌∙◌, arith, inl, inr}
 use Rattle.std.specs.Prelude.{◌||◌, ◌⊎◌}
 use Rattle.std.specs.Str.{bytes_eq}
 use Rattle.std.specs.List.{list_any}
-use Rattle.std.proofs.lemmas.Bool.{cases_Bool, cases_eq, cond-true, cond-false, false_from_ne_true, or_parts}
+use Rattle.std.proofs.lemmas.Bool.{cases_Bool, cases_eq, cond-true, cond-false, false_from_ne_true, or_parts, lt-ltb}
 use Rattle.std.proofs.lemmas.Slice.Eq.{bytes_eq-Decides}
 use Rattle.std.proofs.lemmas.List.{get_or-replicate, length-replicate, length-set, get_or-set_same, get_or-set_other, length-append}
 use Rattle.std.proofs.lemmas.List.Folds.{list_any-append}
@@ -11,7 +11,7 @@ use Rattle.lz_tree.specs.declared.token.TokenKind.{TokenKind}
 use Rattle.lz_tree.specs.declared.token.TokenKind.TheVariants as kinds
 use Rattle.lz_tree.specs.FirstForm.{is_among, is_reserved, number_in}
 use Rattle.lz_parse.specs.Lexing.{name_at, AreNames}
-use Rattle.lz_parse.specs.Grammar.{Declared, nothing_declared, cell_at, declare}
+use Rattle.lz_parse.specs.Grammar.{Declared, nothing_declared, cell_at, declare, declare_name}
 
 -- the cell of a name among the declared ones
 abbrev pub cell_of : List (List ℕ) → List ℕ → Option ℕ
@@ -100,8 +100,9 @@ cell_found objects name cell e = by (is_among objects name) e
 -- what a declaration adds
 pub declares : (names objects : List (List ℕ)) (st st' : Declared) (n : ℕ) → AreNames names → IsTable names objects st → n < length names → declare names st (kinds.Name n) ≡ Some st'
     → (is_reserved (name_at names n) ≡ false) × (is_among objects (name_at names n) ≡ false) × IsTable names (objects ++ name_at names n ∷ []) st'
-unfolding declare
-declares names objects st st' n apart table lt e =
+unfolding declare declare_name
+declares names objects st st' n apart table lt whole =
+    let e : declare_name names st n ≡ Some st' = sym (cond-true (ltb n (length names)) (declare_name names st n) None (lt-ltb n (length names) lt)) ∙ whole in
     elim (cases_Bool (is_reserved (name_at names n))) [
       | inl bad ↦ let no_table : None ≡ Some st' = sym (cond-true (is_reserved (name_at names n)) _ _ bad) ∙ e in absurd cc
       | inr free ↦
@@ -136,7 +137,7 @@ declares names objects st st' n apart table lt e =
 -- a name that is free and new is declared
 pub declares_new : (names objects : List (List ℕ)) (st : Declared) (n : ℕ) → IsTable names objects st → n < length names → is_reserved (name_at names n) ≡ false → is_among objects (name_at names n) ≡ false
     → declare names st (kinds.Name n) ≡ Some (record { cells = set st.cells n (Some st.count); count = st.count + 1 })
-unfolding declare
+unfolding declare declare_name
 declares_new names objects st n table lt free new =
     let fresh : is_some (cell_at st.cells n) ≡ false = ap is_some (table.cells n lt) ∙ is_some_among objects (name_at names n) ∙ new in
-    cond-false (is_reserved (name_at names n)) _ _ free ∙ cond-false (is_some (cell_at st.cells n)) _ _ fresh
+    cond-true (ltb n (length names)) (declare_name names st n) None (lt-ltb n (length names) lt) ∙ cond-false (is_reserved (name_at names n)) _ _ free ∙ cond-false (is_some (cell_at st.cells n)) _ _ fresh

@@ -1,6 +1,6 @@
 -- Reading the tokens of the first form from the left. Names are numbers here: the texts are looked at
 -- where a name is declared, and where `main` and `assert` stand.
-use Rattle.std.specs.Prelude.{◌≡◌, ℕ, ◌+◌, ◌==◌, Bool, true, false, ◌&&◌, List, [], ◌∷◌, length, codes, replicate, Option, Some, None, is_some, slice_set, slice_index_or, if◌then◌else◌}
+use Rattle.std.specs.Prelude.{◌≡◌, ℕ, ◌+◌, ◌==◌, Bool, true, false, ◌&&◌, List, [], ◌∷◌, length, codes, replicate, Option, Some, None, is_some, nat_lt, slice_set, slice_index_or, if◌then◌else◌}
 use Rattle.std.specs.Str.{bytes_eq}
 use Rattle.lz_base.specs.declared.operator.Binary.TheVariants.{Eq}
 use Rattle.lz_base.specs.declared.word.IntType as types
@@ -86,11 +86,14 @@ abbrev pub cell_at : List (Option ℕ) → ℕ → Option ℕ
 cell_at cells number = slice_index_or cells number None
 
 -- one more object, if its name is neither reserved nor declared
-unfoldable pub declare : List (List ℕ) → Declared → TokenKind → Option Declared
-declare names before (kinds.Name number) =
+unfoldable pub declare_name : List (List ℕ) → Declared → ℕ → Option Declared
+declare_name names before number =
     if is_reserved (name_at names number) then None
     else if is_some (cell_at before.cells number) then None
     else Some (record { cells = slice_set before.cells number (Some before.count); count = before.count + 1 })
+
+unfoldable pub declare : List (List ℕ) → Declared → TokenKind → Option Declared
+declare names before (kinds.Name number) = if nat_lt number (length names) then declare_name names before number else None
 declare names before (kinds.Constant value) = None
 declare names before (kinds.Keyword keyword) = None
 declare names before (kinds.Punct punct) = None

@@ -39,7 +39,7 @@ impl Objects {
     }
 
     /// Declares the object of a name, in the next cell, unless the name is reserved or declared.
-    #[tactic(auto, unfolding(crate::specs::Grammar::declare))]
+    #[tactic(auto, unfolding(crate::specs::Grammar::declare, crate::specs::Grammar::declare_name))]
     fn declare(&mut self, names: &[Name], kind: TokenKind) -> Result<(), ParseError>
         requires room { self.old.count < 1048576 }
         requires cells { length self.old.cells.items ≡ length names.now }

@@ -1,4 +1,5 @@
 ghost use Rattle.std.specs.Prelude.{◌≡◌};
+ghost use Rattle.std.specs.List.{list_any};
 ghost use Rattle.std.specs.Str.{bytes_eq};
 ghost use Rattle.lz_tree.specs.FirstForm.{is_among, is_reserved, keywords, known_names};
 
@@ -75,16 +76,22 @@ const KNOWN_NAMES: [&str; 22] = [
     "printf",
 ];
 
+fn is_any(words: &[&str], name: &str) -> bool
+    ensures { result ≡ list_any (λ word. bytes_eq name.now word.now) words.now }
+{
+    words.iter().any(|word| name == *word)
+}
+
 fn is_keyword(name: &str) -> bool
     ensures { result ≡ is_among keywords name.now }
 {
-    KEYWORDS.iter().any(|keyword| name == *keyword)
+    is_any(&KEYWORDS, name)
 }
 
 fn is_known_name(name: &str) -> bool
     ensures { result ≡ is_among known_names name.now }
 {
-    KNOWN_NAMES.iter().any(|known| name == *known)
+    is_any(&KNOWN_NAMES, name)
 }
 
 /// Whether no object may have the name: a keyword, a known name or `main`.
