@@ -7,3 +7,5 @@ pub mod Taking
 pub mod Interning
 pub mod Errors
 pub mod Loops
+pub mod Single
+pub mod Statements

@@ -35,11 +35,11 @@ pub record IsTaken (names : List (List ℕ)) (tokens : List Token) (first : Lexe
   pub same : lexemes_of names tokens ≡ first ∷ lexemes_of names rest
   pub sound : AreTokens names rest
 
-tail_sound : (names : List (List ℕ)) (t : Token) (ts : List Token) → AreTokens names (t ∷ ts) → AreTokens names ts
+pub tail_sound : (names : List (List ℕ)) (t : Token) (ts : List Token) → AreTokens names (t ∷ ts) → AreTokens names ts
 tail_sound names t ts s = record { apart = s.apart; all = s.all.1 }
 
-spelled_cons : (names : List (List ℕ)) (tokens : List Token) (first : Lexeme) (after : List Lexeme) → IsSpelled names tokens (first ∷ after)
-    → (t : Token) (rest : List Token) × (tokens ≡ t ∷ rest) × (lexeme_of names t ≡ first) × IsKindOf names t.kind × IsSpelled names rest after
+pub spelled_cons : (names : List (List ℕ)) (tokens : List Token) (first : Lexeme) (after : List Lexeme) → IsSpelled names tokens (first ∷ after)
+    → (t : Token) × (rest : List Token) × (tokens ≡ t ∷ rest) × (lexeme_of names t ≡ first) × IsKindOf names t.kind × IsSpelled names rest after
 spelled_cons names [] first after s = let e : [] ≡ first ∷ after = s.same in absurd cc
 spelled_cons names (t ∷ ts) first after s =
     let e = cons_is (lexeme_of names t) first (lexemes_of names ts) after s.same in
@@ -66,14 +66,14 @@ punct_back Semicolon = refl
 punct_back Assign = refl
 punct_back Equal = refl
 
-mark_piece : (names : List (List ℕ)) (wanted : Punct) (kind : TokenKind) → is_mark wanted kind ≡ true → kind_piece names kind ≡ mark wanted
+pub mark_piece : (names : List (List ℕ)) (wanted : Punct) (kind : TokenKind) → is_mark wanted kind ≡ true → kind_piece names kind ≡ mark wanted
 mark_piece names wanted (kinds.Name n) h = absurd cc
 mark_piece names wanted (kinds.Constant v) h = absurd cc
 mark_piece names wanted (kinds.Keyword k) h = absurd cc
 mark_piece names wanted (kinds.Punct m) h =
     ap mark (sym (punct_back m) ∙ ap punct_of (eqb-true (punct_number m) (punct_number wanted) h) ∙ punct_back wanted)
 
-piece_mark : (names : List (List ℕ)) (wanted : Punct) (kind : TokenKind) → kind_piece names kind ≡ mark wanted → is_mark wanted kind ≡ true
+pub piece_mark : (names : List (List ℕ)) (wanted : Punct) (kind : TokenKind) → kind_piece names kind ≡ mark wanted → is_mark wanted kind ≡ true
 piece_mark names wanted (kinds.Name n) h = absurd cc
 piece_mark names wanted (kinds.Constant v) h = absurd cc
 piece_mark names wanted (kinds.Keyword k) h = absurd cc
@@ -84,11 +84,13 @@ unfolding mark_at
 mark_there names wanted [] rest s e = absurd (none_is rest e)
 mark_there names wanted (t ∷ ts) rest s e =
     let g = guard_some (is_mark wanted t.kind) (Some ts) rest e in
-    let same : ts ≡ rest = some_is ts rest g.1 in
-    (t.line, record {
-      same = ap (λ (p : Piece). lexeme t.line p ∷ lexemes_of names ts) (mark_piece names wanted t.kind g.0) ∙ ap (λ (r : List Token). lexeme t.line (mark wanted) ∷ lexemes_of names r) same;
-      sound = subst (λ (r : List Token). AreTokens names r) same (tail_sound names t ts s);
-    })
+    let same : ts ≡ rest = some_is ts rest g.1 in (
+      t.line,
+      record {
+        same = ap (λ (p : Piece). lexeme t.line p ∷ lexemes_of names ts) (mark_piece names wanted t.kind g.0) ∙ ap (λ (r : List Token). lexeme t.line (mark wanted) ∷ lexemes_of names r) same;
+        sound = subst (λ (r : List Token). AreTokens names r) same (tail_sound names t ts s);
+      },
+    )
 
 pub mark_back : (names : List (List ℕ)) (wanted : Punct) (tokens : List Token) (line : ℕ) (after : List Lexeme) → IsSpelled names tokens (lexeme line (mark wanted) ∷ after)
     → (rest : List Token) × (mark_at wanted tokens ≡ Some rest) × IsSpelled names rest after
@@ -112,13 +114,13 @@ text_same Int Void e = absurd cc
 text_same Void Int e = absurd cc
 text_same Void Void e = refl
 
-keyword_piece : (names : List (List ℕ)) (wanted : Keyword) (kind : TokenKind) → is_keyword wanted kind ≡ true → kind_piece names kind ≡ word (keyword_text wanted)
+pub keyword_piece : (names : List (List ℕ)) (wanted : Keyword) (kind : TokenKind) → is_keyword wanted kind ≡ true → kind_piece names kind ≡ word (keyword_text wanted)
 keyword_piece names wanted (kinds.Name n) h = absurd cc
 keyword_piece names wanted (kinds.Constant v) h = absurd cc
 keyword_piece names wanted (kinds.Keyword k) h = ap (λ (j : Keyword). word (keyword_text j)) (keyword_same k wanted (eqb-true (keyword_number k) (keyword_number wanted) h))
 keyword_piece names wanted (kinds.Punct m) h = absurd cc
 
-piece_keyword : (names : List (List ℕ)) (wanted : Keyword) (kind : TokenKind) → AreNames names → IsKindOf names kind → kind_piece names kind ≡ word (keyword_text wanted) → is_keyword wanted kind ≡ true
+pub piece_keyword : (names : List (List ℕ)) (wanted : Keyword) (kind : TokenKind) → AreNames names → IsKindOf names kind → kind_piece names kind ≡ word (keyword_text wanted) → is_keyword wanted kind ≡ true
 piece_keyword names wanted (kinds.Name n) apart lt h = let same : name_at names n ≡ keyword_text wanted = cc in absurd (apart.plain n wanted lt same)
 piece_keyword names wanted (kinds.Constant v) apart lt h = absurd cc
 piece_keyword names wanted (kinds.Keyword k) apart lt h = let same : keyword_text k ≡ keyword_text wanted = cc in eq-eqb (keyword_number k) (keyword_number wanted) (text_same k wanted same)
@@ -129,11 +131,13 @@ unfolding keyword_at
 keyword_there names wanted [] rest s e = absurd (none_is rest e)
 keyword_there names wanted (t ∷ ts) rest s e =
     let g = guard_some (is_keyword wanted t.kind) (Some ts) rest e in
-    let same : ts ≡ rest = some_is ts rest g.1 in
-    (t.line, record {
-      same = ap (λ (p : Piece). lexeme t.line p ∷ lexemes_of names ts) (keyword_piece names wanted t.kind g.0) ∙ ap (λ (r : List Token). lexeme t.line (word (keyword_text wanted)) ∷ lexemes_of names r) same;
-      sound = subst (λ (r : List Token). AreTokens names r) same (tail_sound names t ts s);
-    })
+    let same : ts ≡ rest = some_is ts rest g.1 in (
+      t.line,
+      record {
+        same = ap (λ (p : Piece). lexeme t.line p ∷ lexemes_of names ts) (keyword_piece names wanted t.kind g.0) ∙ ap (λ (r : List Token). lexeme t.line (word (keyword_text wanted)) ∷ lexemes_of names r) same;
+        sound = subst (λ (r : List Token). AreTokens names r) same (tail_sound names t ts s);
+      },
+    )
 
 pub keyword_back : (names : List (List ℕ)) (wanted : Keyword) (tokens : List Token) (line : ℕ) (after : List Lexeme) → IsSpelled names tokens (lexeme line (word (keyword_text wanted)) ∷ after)
     → (rest : List Token) × (keyword_at wanted tokens ≡ Some rest) × IsSpelled names rest after
@@ -161,7 +165,7 @@ name_there names (t ∷ ts) x s e = let b = by t.kind s.all.0 e (tail_sound name
     by (kinds.Punct p) lt e sound = absurd (none_is x e)
 
 pub name_back : (names : List (List ℕ)) (tokens : List Token) (line : ℕ) (x : List ℕ) (after : List Lexeme) → IsSpelled names tokens (lexeme line (word x) ∷ after) → ((keyword : Keyword) → x ≡ keyword_text keyword → ⊥)
-    → (n : ℕ) (rest : List Token) × (name_token_at tokens ≡ Some (line, n, rest)) × (name_at names n ≡ x) × (n < length names) × IsSpelled names rest after
+    → (n : ℕ) × (rest : List Token) × (name_token_at tokens ≡ Some (line, n, rest)) × (name_at names n ≡ x) × (n < length names) × IsSpelled names rest after
 unfolding name_token_at
 name_back names tokens line x after s plain =
     let c = spelled_cons names tokens (lexeme line (word x)) after s in
@@ -180,7 +184,7 @@ name_back names tokens line x after s plain =
 
 -- the cells of the objects by the numbers of their names
 pub record IsContext (names objects : List (List ℕ)) (cells : List (Option ℕ)) : Type 0 where
-  pub cells : (n : ℕ) → n < length names → cell_at cells n ≡ cell_of objects (name_at names n)
+  pub table : (n : ℕ) → n < length names → cell_at cells n ≡ cell_of objects (name_at names n)
   pub free : (x : List ℕ) → is_among objects x ≡ true → is_reserved x ≡ false
 
 reserved_keyword : (k : Keyword) → is_reserved (keyword_text k) ≡ true
@@ -198,11 +202,11 @@ no_keyword x free k e = let both : true ≡ false = sym (reserved_keyword k) ∙
 -- the cell of a name that is used
 pub cell_there : (names objects : List (List ℕ)) (cells : List (Option ℕ)) (n cell : ℕ) → IsContext names objects cells → n < length names → cell_at cells n ≡ Some cell
     → (is_among objects (name_at names n) ≡ true) × (cell ≡ number_in objects (name_at names n))
-cell_there names objects cells n cell c lt e = cell_found objects (name_at names n) cell (sym (c.cells n lt) ∙ e)
+cell_there names objects cells n cell c lt e = cell_found objects (name_at names n) cell (sym (c.table n lt) ∙ e)
 
 pub cell_back : (names objects : List (List ℕ)) (cells : List (Option ℕ)) (n : ℕ) (x : List ℕ) → IsContext names objects cells → n < length names → name_at names n ≡ x → is_among objects x ≡ true
     → cell_at cells n ≡ Some (number_in objects x)
-cell_back names objects cells n x c lt e h = c.cells n lt ∙ ap (cell_of objects) e ∙ cond-true (is_among objects x) (Some (number_in objects x)) None h
+cell_back names objects cells n x c lt e h = c.table n lt ∙ ap (cell_of objects) e ∙ cond-true (is_among objects x) (Some (number_in objects x)) None h
 
 -- what an operand reads
 pub record IsOperandAt (names objects : List (List ℕ)) (tokens : List Token) (x : ℕ × Expression × List Token) : Type 0 where

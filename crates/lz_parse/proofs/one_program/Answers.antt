@@ -1,4 +1,4 @@
-use Rattle.lz_parse.proofs.Loops.{bind_at}
+use Rattle.lz_parse.proofs.Statements.{statements_back}
 use Rattle.lz_parse.proofs.Forms.{one_program}
 use Rattle.lz_parse.proofs.one_program.Goals as goal
 
