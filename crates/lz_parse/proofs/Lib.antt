@@ -9,3 +9,4 @@ pub mod Errors
 pub mod Loops
 pub mod Single
 pub mod Statements
+pub mod Whole

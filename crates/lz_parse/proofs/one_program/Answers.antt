@@ -1,4 +1,3 @@
-use Rattle.lz_parse.proofs.Statements.{statements_back}
 use Rattle.lz_parse.proofs.Forms.{one_program}
 use Rattle.lz_parse.proofs.one_program.Goals as goal
 
