@@ -124,6 +124,6 @@ fn refused(rt: HostRuntime) {
         b"int x; int main(void) { x = 1 + 2; }",
         b"int x; int main(void) { assert = 1; }",
     ] {
-        assert!(rt; parse(rt.alloc(), text) == Err(ParseError::NotTheForm));
+        assert!(rt; matches!(parse(rt.alloc(), text), Err(ParseError::NotTheForm)));
     }
 }
