@@ -1,5 +1,5 @@
 -- The error that a `?` hands on.
-use Rattle.std.proofs.Common.{◌≡◌, Option, None, Result, Err, sym, ap, subst, ◌∙◌}
+use Rattle.std.proofs.Common.{◌≡◌, Option, None, Result, Err, sym, subst, ◌∙◌}
 use Rattle.lz_parse.specs.declared.error.ParseError.{ParseError}
 use Rattle.lz_parse.specs.declared.error.ParseError.TheVariants.{NotTheForm}
 use Rattle.lz_parse.specs.Reading.{Fails}

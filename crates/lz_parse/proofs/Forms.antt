@@ -1,16 +1,15 @@
 -- Lexemes spell one form, each of its lexemes may stand in a form, and its program is well formed.
-use Rattle.std.proofs.Common.{◌≡◌, ℕ, zero, suc, ◌+◌, ◌^◌, ◌<◌, ◌≤◌, Bool, true, false, cond, List, [], ◌∷◌, ◌++◌, length, map, replicate, refl, sym, ap, subst, ◌∙◌, arith, inl, inr}
+use Rattle.std.proofs.Common.{◌≡◌, ℕ, zero, suc, ◌+◌, ◌<◌, Bool, true, false, cond, List, [], ◌∷◌, length, map, replicate, refl, sym, ap, subst, ◌∙◌, arith}
 use Rattle.std.specs.Prelude.{codes, ◌||◌}
 use Rattle.std.specs.Str.{bytes_eq}
 use Rattle.std.specs.List.{AllByRecursion}
 use Rattle.std.specs.Fmt.{decimal}
-use Rattle.std.proofs.lemmas.Bool.{cases_Bool, cond-true, cond-false}
 use Rattle.std.proofs.lemmas.List.{length-replicate}
 use Rattle.std.proofs.lemmas.Fmt.{decimal_injective}
 use Rattle.lz_tree.specs.declared.token.Punct.{Punct}
-use Rattle.lz_tree.specs.declared.token.Punct.TheVariants.{OpenParen, CloseParen, OpenBrace, CloseBrace, Semicolon, Assign, Equal}
-use Rattle.lz_tree.specs.Tokens.{Piece, word, number, mark, Lexeme, HasLexemes}
-use Rattle.lz_tree.specs.Scopes.{Program, Expression, Statement, IsExpressionOf, IsStatementOf, IsWellFormed}
+use Rattle.lz_tree.specs.declared.token.Punct.TheVariants.{OpenParen, CloseBrace, Semicolon, Assign}
+use Rattle.lz_tree.specs.Tokens.{Piece, word, number, mark, Lexeme}
+use Rattle.lz_tree.specs.Scopes.{Program, IsExpressionOf, IsStatementOf, IsWellFormed}
 use Rattle.lz_tree.specs.FirstForm.{Operand, named, number_of, FormStatement, assignment, assertion, FirstForm, lexeme, operand_lexeme, BeginsWithObjects, BeginsWithHead, BeginsWithStatement, AreStatements, Spells, is_among, IsOperandOf, IsFormStatementOf, HasNames, number_in, operand_meant, statement_meant, meant, IsFirstForm}
 use Rattle.lz_parse.specs.Lexing.{IsFormLexeme, CanLex}
 use Rattle.lz_parse.proofs.Lexemes.{one_lexing}

@@ -1,9 +1,8 @@
 -- Single tokens: what is read at the front is the lexeme there, and a lexeme there is read.
-use Rattle.std.proofs.Common.{◌≡◌, ℕ, zero, suc, ◌+◌, ◌<◌, ◌≤◌, Bool, true, false, cond, eqb, List, [], ◌∷◌, ◌++◌, length, Option, Some, None, refl, sym, ap, subst, ◌∙◌, arith, inl, inr}
-use Rattle.std.specs.Prelude.{codes, ◌||◌}
-use Rattle.std.specs.List.{AllByRecursion}
+use Rattle.std.proofs.Common.{◌≡◌, ℕ, zero, suc, ◌<◌, true, false, List, [], ◌∷◌, length, Option, Some, None, refl, sym, ap, subst, ◌∙◌, arith}
+use Rattle.std.specs.Prelude.{codes}
 use Rattle.std.specs.Fmt.{decimal}
-use Rattle.std.proofs.lemmas.Bool.{cond-true, cond-false, eqb-true, eq-eqb}
+use Rattle.std.proofs.lemmas.Bool.{cond-true, eqb-true, eq-eqb}
 use Rattle.std.proofs.lemmas.Fmt.{decimal_injective}
 use Rattle.lz_tree.specs.declared.token.Token.{Token}
 use Rattle.lz_tree.specs.declared.token.TokenKind.{TokenKind}
@@ -16,8 +15,7 @@ use Rattle.lz_tree.specs.declared.scoped.Object.TheVariants.{Cell}
 use Rattle.lz_tree.specs.Tokens.{Piece, word, number, mark, Lexeme}
 use Rattle.lz_tree.specs.Scopes.{Expression, constant, read}
 use Rattle.lz_tree.specs.FirstForm.{Operand, named, number_of, lexeme, operand_lexeme, is_among, is_reserved, number_in, IsOperandOf, operand_meant, operand_line}
-use Rattle.lz_parse.specs.Reading.{◌>>=◌}
-use Rattle.lz_parse.specs.Lexing.{keyword_text, name_at, kind_piece, lexeme_of, lexemes_of, IsKindOf, IsTokenOf, AreNames, AreTokens}
+use Rattle.lz_parse.specs.Lexing.{keyword_text, name_at, kind_piece, lexeme_of, lexemes_of, IsKindOf, AreNames, AreTokens}
 use Rattle.lz_parse.specs.Grammar.{punct_number, keyword_number, is_mark, is_keyword, mark_at, keyword_at, name_of, name_token_at, cell_at, operand_of, operand_at}
 use Rattle.lz_parse.proofs.Tables.{cell_of, cell_found}
 use Rattle.lz_parse.proofs.Loops.{some_is, none_is, guard_some, bind_some, bind_at}

@@ -1,9 +1,9 @@
 -- Statements: what is read is a statement of the form, and a statement of the form is read.
-use Rattle.std.proofs.Common.{◌≡◌, ℕ, ◌+◌, ◌<◌, ◌≤◌, Bool, true, false, cond, List, [], ◌∷◌, length, map, Option, Some, None, refl, sym, ap, subst, ◌∙◌, arith, inl, inr}
+use Rattle.std.proofs.Common.{◌≡◌, ℕ, ◌<◌, true, false, List, [], ◌∷◌, length, map, Option, Some, refl, sym, ap, subst, ◌∙◌, inl, inr}
 use Rattle.std.specs.Prelude.{codes}
 use Rattle.std.specs.Str.{bytes_eq}
 use Rattle.std.specs.List.{AllByRecursion}
-use Rattle.std.proofs.lemmas.Bool.{cond-true, cond-false, false_from_ne_true}
+use Rattle.std.proofs.lemmas.Bool.{false_from_ne_true}
 use Rattle.lz_base.specs.declared.operator.Binary.TheVariants.{Eq}
 use Rattle.lz_base.specs.declared.word.IntType.TheVariants.{Int}
 use Rattle.lz_tree.specs.declared.token.Token.{Token}
@@ -15,12 +15,11 @@ use Rattle.lz_tree.specs.declared.scoped.Object.TheVariants.{Cell}
 use Rattle.lz_tree.specs.Tokens.{Piece, word, mark, Lexeme}
 use Rattle.lz_tree.specs.Scopes.{Expression, binary, assign, call, Statement, eval}
 use Rattle.lz_tree.specs.FirstForm.{Operand, FormStatement, assignment, assertion, lexeme, operand_lexeme, BeginsWithStatement, AreStatements, is_among, is_reserved, number_in, IsOperandOf, IsFormStatementOf, operand_meant, operand_line, statement_meant}
-use Rattle.lz_parse.specs.Reading.{◌>>=◌}
 use Rattle.lz_parse.specs.Lexing.{keyword_text, name_at, kind_piece, lexeme_of, lexemes_of, AreTokens}
 use Rattle.lz_parse.specs.Grammar.{is_mark, mark_at, name_token_at, cell_at, operand_at, assignment_at, assertion_at, statement_at, is_end, ReadStatements}
 use Rattle.lz_parse.proofs.Tables.{same_bytes, bytes_same}
-use Rattle.lz_parse.proofs.Loops.{some_is, none_is, if_some, bind_some}
-use Rattle.lz_parse.proofs.Single.{IsSpelled, IsTaken, spelled_cons, mark_piece, piece_mark, mark_there, mark_back, name_there, name_back, IsContext, no_keyword, reserved_assert, cell_there, cell_back, IsOperandAt, operand_there, operand_back}
+use Rattle.lz_parse.proofs.Loops.{some_is, if_some, bind_some}
+use Rattle.lz_parse.proofs.Single.{IsSpelled, spelled_cons, mark_piece, piece_mark, mark_there, mark_back, name_there, name_back, IsContext, no_keyword, reserved_assert, cell_there, cell_back, operand_there, operand_back}
 
 no_assert : (keyword : Keyword) → codes "assert" ≡ keyword_text keyword → ⊥
 no_assert keys.Int e = absurd cc

@@ -1,13 +1,13 @@
 -- What a piece adds to the tokens so far.
-use Rattle.std.proofs.Common.{◌≡◌, ℕ, ◌+◌, ◌<◌, ◌≤◌, List, [], ◌∷◌, ◌++◌, length, map, get_or, Option, Some, None, refl, sym, ap, subst, ◌∙◌, append_assoc, arith}
+use Rattle.std.proofs.Common.{◌≡◌, ℕ, ◌<◌, ◌≤◌, List, [], ◌∷◌, ◌++◌, length, Some, None, refl, sym, ap, subst, ◌∙◌, arith}
 use Rattle.std.specs.List.{AllByRecursion}
 use Rattle.std.proofs.lemmas.List.{append-nil, length-append, get_or_append_left, map_push, length_push}
 use Rattle.lz_tree.specs.declared.token.Token.{Token}
 use Rattle.lz_tree.specs.declared.token.TokenKind.{TokenKind}
 use Rattle.lz_tree.specs.declared.token.TokenKind.TheVariants as kinds
-use Rattle.lz_tree.specs.Tokens.{Piece, blank, word, number, mark, Lexeme, lexemes_from}
+use Rattle.lz_tree.specs.Tokens.{Piece, word, Lexeme, lexemes_from}
 use Rattle.lz_tree.specs.FirstForm.{lexeme}
-use Rattle.lz_parse.specs.Lexing.{name_at, kind_piece, lexeme_of, lexemes_of, IsKindOf, IsTokenOf, AreTokens, Adds, IsOfPiece, Takes}
+use Rattle.lz_parse.specs.Lexing.{name_at, kind_piece, lexeme_of, lexemes_of, IsKindOf, IsTokenOf, Adds, IsOfPiece, Takes}
 
 name_kept : (old new : List (List ℕ)) → Adds old new → (n : ℕ) → n < length old → name_at new n ≡ name_at old n
 name_kept old new a n lt = ap (λ (names : List (List ℕ)). name_at names n) a.added ∙ get_or_append_left old a.more [] n lt

@@ -1,27 +1,27 @@
 -- The whole file: its tokens are read as a program where its lexemes spell a form that means it.
-use Rattle.std.proofs.Common.{◌≡◌, ℕ, ◌+◌, ◌<◌, ◌≤◌, Bool, true, false, cond, eqb, List, [], ◌∷◌, ◌++◌, length, map, get_or, set, replicate, Option, Some, None, Result, Ok, Err, refl, sym, ap, subst, ◌∙◌, append_assoc, arith, inl, inr}
-use Rattle.std.specs.Prelude.{codes, ◌&&◌, ◌||◌, ◌⊎◌, IfOk}
+use Rattle.std.proofs.Common.{◌≡◌, ℕ, ◌+◌, ◌<◌, Bool, true, false, eqb, List, [], ◌∷◌, ◌++◌, length, map, get_or, set, replicate, Some, None, Result, Ok, Err, refl, sym, ap, subst, ◌∙◌, append_assoc, arith, inl, inr}
+use Rattle.std.specs.Prelude.{codes, ◌&&◌, ◌||◌, IfOk}
 use Rattle.std.specs.Str.{bytes_eq}
 use Rattle.std.specs.List.{AllByRecursion}
-use Rattle.std.proofs.lemmas.Bool.{cases_Bool, cond-true, cond-false, and_parts, and_from, and_right}
+use Rattle.std.proofs.lemmas.Bool.{cond-true, cond-false, and_parts, and_from, and_right}
 use Rattle.std.proofs.lemmas.List.{append-nil}
 use Rattle.lz_tree.specs.declared.token.Token.{Token}
 use Rattle.lz_tree.specs.declared.token.TokenKind.{TokenKind}
 use Rattle.lz_tree.specs.declared.token.TokenKind.TheVariants as kinds
 use Rattle.lz_tree.specs.declared.token.Keyword.{Keyword}
 use Rattle.lz_tree.specs.declared.token.Keyword.TheVariants.{Int, Void}
-use Rattle.lz_tree.specs.declared.token.Punct.TheVariants.{OpenParen, CloseParen, OpenBrace, CloseBrace, Semicolon, Assign, Equal}
-use Rattle.lz_tree.specs.Tokens.{Piece, word, mark, Lexeme}
+use Rattle.lz_tree.specs.declared.token.Punct.TheVariants.{OpenParen, CloseParen, OpenBrace, Semicolon}
+use Rattle.lz_tree.specs.Tokens.{word, mark, Lexeme}
 use Rattle.lz_tree.specs.Scopes.{Statement, Program}
-use Rattle.lz_tree.specs.FirstForm.{FormStatement, FirstForm, lexeme, BeginsWithObject, BeginsWithObjects, BeginsWithHead, AreStatements, Spells, is_among, is_reserved, AreNew, IsFormStatementOf, HasNames, statement_meant, meant, IsFirstForm}
+use Rattle.lz_tree.specs.FirstForm.{FirstForm, lexeme, BeginsWithObjects, BeginsWithHead, Spells, is_among, is_reserved, AreNew, HasNames, statement_meant, meant, IsFirstForm}
 use Rattle.lz_parse.specs.Reading.{◌>>=◌}
-use Rattle.lz_parse.specs.Lexing.{keyword_text, name_at, kind_piece, lexeme_of, lexemes_of, IsKindOf, AreNames, AreTokens, AreTokensOf}
-use Rattle.lz_parse.specs.Grammar.{punct_number, is_mark, is_keyword, mark_at, keyword_at, name_token_at, main_at, head_at, Declared, nothing_declared, declare, object_at, objects_at, front_at, ReadStatements, IsRead}
+use Rattle.lz_parse.specs.Lexing.{keyword_text, name_at, kind_piece, lexeme_of, lexemes_of, IsKindOf, AreTokens, AreTokensOf}
+use Rattle.lz_parse.specs.Grammar.{punct_number, is_mark, is_keyword, mark_at, keyword_at, name_token_at, main_at, head_at, Declared, nothing_declared, declare, object_at, objects_at, front_at, IsRead}
 use Rattle.lz_parse.proofs.Tables.{same_bytes, bytes_same, IsTable, table_none, declares, declares_new}
-use Rattle.lz_parse.proofs.Loops.{some_is, none_is, if_some, guard_some, bind_some, bind_at, objects_more, objects_end}
+use Rattle.lz_parse.proofs.Loops.{some_is, none_is, if_some, guard_some, bind_some, objects_more, objects_end}
 use Rattle.lz_parse.proofs.Lexemes.{one_lexing}
-use Rattle.lz_parse.proofs.Single.{IsSpelled, IsTaken, tail_sound, spelled_cons, mark_piece, piece_mark, keyword_piece, piece_keyword, mark_there, mark_back, keyword_there, keyword_back, name_there, name_back, IsContext, no_keyword}
-use Rattle.lz_parse.proofs.Statements.{AreStatementsAt, statements_there, statements_back}
+use Rattle.lz_parse.proofs.Single.{IsSpelled, IsTaken, spelled_cons, mark_piece, piece_mark, keyword_piece, piece_keyword, mark_there, mark_back, keyword_there, keyword_back, name_there, name_back, IsContext, no_keyword}
+use Rattle.lz_parse.proofs.Statements.{statements_there, statements_back}
 
 -- ---- the head
 

@@ -3,7 +3,6 @@
 use Rattle.std.specs.Prelude.{◌≡◌, ℕ, ◌+◌, ◌==◌, Bool, true, false, ◌&&◌, List, [], ◌∷◌, length, codes, replicate, Option, Some, None, is_some, nat_lt, slice_set, slice_index_or, if◌then◌else◌}
 use Rattle.std.specs.Str.{bytes_eq}
 use Rattle.lz_base.specs.declared.operator.Binary.TheVariants.{Eq}
-use Rattle.lz_base.specs.declared.word.IntType as types
 use Rattle.lz_base.specs.declared.word.IntType.TheVariants as widths
 use Rattle.lz_tree.specs.declared.token.Token.{Token}
 use Rattle.lz_tree.specs.declared.token.TokenKind.{TokenKind}

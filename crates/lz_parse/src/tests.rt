@@ -88,6 +88,7 @@ fn accepted(rt: HostRuntime) {
         b"\tint\nmain\n(\nvoid\n)\n{\n}\n",
         b"int x0_; int main(void) { x0_ = 2147483647; x0_ = 0; }",
     ] {
+        assert!(rt; text.len() < 100);
         assert!(rt; parse(rt.alloc(), text).is_ok());
     }
 }
@@ -124,6 +125,7 @@ fn refused(rt: HostRuntime) {
         b"int x; int main(void) { x = 1 + 2; }",
         b"int x; int main(void) { assert = 1; }",
     ] {
+        assert!(rt; text.len() < 100);
         assert!(rt; matches!(parse(rt.alloc(), text), Err(ParseError::NotTheForm)));
     }
 }

@@ -1,4 +1,4 @@
-use Rattle.std.proofs.Common.{◌≡◌, Err, ap}
+use Rattle.std.proofs.Common.{Err, ap}
 use Rattle.std.proofs.lemmas.Result.{err_from_is_err_and}
 use Rattle.lz_parse.specs.declared.error.ParseError.TheVariants.{NotTheForm}
 use Rattle.lz_tree.specs.Scopes.{program, IsWellFormed}

@@ -1,4 +1,4 @@
-use Rattle.std.proofs.Common.{◌≡◌, ◌+◌, ◌<◌, ◌≤◌, length, sym, ◌∙◌, arith}
+use Rattle.std.proofs.Common.{length, sym, ◌∙◌, arith}
 use Rattle.std.proofs.lemmas.Result.{err_from_is_err_and}
 use Rattle.lz_parse.specs.Grammar.{declared_of, nothing_declared, objects_at}
 use Rattle.lz_parse.proofs.Loops.{object_shorter, objects_more, objects_fails, objects_end, declare_keeps}

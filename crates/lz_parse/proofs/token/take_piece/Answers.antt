@@ -1,4 +1,4 @@
-use Rattle.std.proofs.Common.{Option, Some, None, subst}
+use Rattle.std.proofs.Common.{Option, subst}
 use Rattle.lz_tree.specs.declared.token.TokenKind.{TokenKind}
 use Rattle.lz_parse.specs.Cutting.{piece_of}
 use Rattle.lz_parse.specs.Lexing.{texts, IsOfPiece}

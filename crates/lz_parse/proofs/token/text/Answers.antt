@@ -1,5 +1,3 @@
-use Rattle.std.proofs.Common.{◌≡◌}
-use Rattle.std.specs.Str.{IsUtf8}
 use Rattle.std.proofs.lemmas.Str.{IsUtf8-from_ascii}
 use Rattle.lz_parse.proofs.Constants.{ok_from}
 use Rattle.lz_parse.proofs.token.text.Goals as goal
