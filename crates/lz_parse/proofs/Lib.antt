@@ -1,0 +1,12 @@
+pub mod Cutting
+pub mod Lexemes
+pub mod Forms
+pub mod Tables
+pub mod Constants
+pub mod Taking
+pub mod Interning
+pub mod Errors
+pub mod Loops
+pub mod Single
+pub mod Statements
+pub mod Whole

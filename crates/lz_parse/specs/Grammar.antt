@@ -1,0 +1,201 @@
+-- Reading the tokens of the first form from the left. Names are numbers here: the texts are looked at
+-- where a name is declared, and where `main` and `assert` stand.
+use Rattle.std.specs.Prelude.{◌≡◌, ℕ, ◌+◌, ◌==◌, Bool, true, false, ◌&&◌, List, [], ◌∷◌, length, codes, replicate, Option, Some, None, is_some, nat_lt, slice_set, slice_index_or, if◌then◌else◌}
+use Rattle.std.specs.Str.{bytes_eq}
+use Rattle.lz_base.specs.declared.operator.Binary.TheVariants.{Eq}
+use Rattle.lz_base.specs.declared.word.IntType.TheVariants as widths
+use Rattle.lz_tree.specs.declared.token.Token.{Token}
+use Rattle.lz_tree.specs.declared.token.TokenKind.{TokenKind}
+use Rattle.lz_tree.specs.declared.token.TokenKind.TheVariants as kinds
+use Rattle.lz_tree.specs.declared.token.Keyword.{Keyword}
+use Rattle.lz_tree.specs.declared.token.Keyword.TheVariants.{Int, Void}
+use Rattle.lz_tree.specs.declared.token.Punct.{Punct}
+use Rattle.lz_tree.specs.declared.token.Punct.TheVariants.{OpenParen, CloseParen, OpenBrace, CloseBrace, Semicolon, Assign, Equal}
+use Rattle.lz_tree.specs.declared.scoped.KnownName.TheVariants.{Assert}
+use Rattle.lz_tree.specs.declared.scoped.Object.TheVariants.{Cell}
+use Rattle.lz_tree.specs.Scopes.{Expression, constant, read, binary, assign, call, Statement, eval, Program}
+use Rattle.lz_tree.specs.FirstForm.{is_reserved}
+use Rattle.lz_parse.specs.declared.objects.Objects.{Objects}
+use Rattle.lz_parse.specs.Reading.{◌>>=◌}
+use Rattle.lz_parse.specs.Lexing.{name_at}
+
+-- ---- single tokens
+
+abbrev pub punct_number : Punct → ℕ
+punct_number OpenParen = 0
+punct_number CloseParen = 1
+punct_number OpenBrace = 2
+punct_number CloseBrace = 3
+punct_number Semicolon = 4
+punct_number Assign = 5
+punct_number Equal = 6
+
+abbrev pub keyword_number : Keyword → ℕ
+keyword_number Int = 0
+keyword_number Void = 1
+
+abbrev pub is_mark : Punct → TokenKind → Bool
+is_mark wanted (kinds.Name number) = false
+is_mark wanted (kinds.Constant value) = false
+is_mark wanted (kinds.Keyword keyword) = false
+is_mark wanted (kinds.Punct punct) = punct_number punct == punct_number wanted
+
+abbrev pub is_keyword : Keyword → TokenKind → Bool
+is_keyword wanted (kinds.Name number) = false
+is_keyword wanted (kinds.Constant value) = false
+is_keyword wanted (kinds.Keyword keyword) = keyword_number keyword == keyword_number wanted
+is_keyword wanted (kinds.Punct punct) = false
+
+-- what stands behind a mark
+unfoldable pub mark_at : Punct → List Token → Option (List Token)
+mark_at wanted [] = None
+mark_at wanted (token ∷ rest) = if is_mark wanted token.kind then Some rest else None
+
+-- what stands behind a keyword
+unfoldable pub keyword_at : Keyword → List Token → Option (List Token)
+keyword_at wanted [] = None
+keyword_at wanted (token ∷ rest) = if is_keyword wanted token.kind then Some rest else None
+
+-- a name's line and number, and what stands behind it
+abbrev pub name_of : ℕ → List Token → TokenKind → Option (ℕ × ℕ × List Token)
+name_of line rest (kinds.Name number) = Some (line, number, rest)
+name_of line rest (kinds.Constant value) = None
+name_of line rest (kinds.Keyword keyword) = None
+name_of line rest (kinds.Punct punct) = None
+
+unfoldable pub name_token_at : List Token → Option (ℕ × ℕ × List Token)
+name_token_at [] = None
+name_token_at (token ∷ rest) = name_of token.line rest token.kind
+
+-- ---- declarations
+
+-- the cell of each name that is declared, by the number of the name, and how many are declared
+pub record Declared : Type 0 where
+  pub cells : List (Option ℕ)
+  pub count : ℕ
+
+abbrev pub declared_of : Objects → Declared
+declared_of objects = record { cells = objects.cells.items; count = objects.count }
+
+abbrev pub nothing_declared : ℕ → Declared
+nothing_declared names = record { cells = replicate names None; count = 0 }
+
+-- the cell of a name
+abbrev pub cell_at : List (Option ℕ) → ℕ → Option ℕ
+cell_at cells number = slice_index_or cells number None
+
+-- one more object, if its name is neither reserved nor declared
+unfoldable pub declare_name : List (List ℕ) → Declared → ℕ → Option Declared
+declare_name names before number =
+    if is_reserved (name_at names number) then None
+    else if is_some (cell_at before.cells number) then None
+    else Some (record { cells = slice_set before.cells number (Some before.count); count = before.count + 1 })
+
+unfoldable pub declare : List (List ℕ) → Declared → TokenKind → Option Declared
+declare names before (kinds.Name number) = if nat_lt number (length names) then declare_name names before number else None
+declare names before (kinds.Constant value) = None
+declare names before (kinds.Keyword keyword) = None
+declare names before (kinds.Punct punct) = None
+
+-- the kind of what stands between `int` and `;`, and what comes behind
+unfoldable pub object_at : List Token → Option (TokenKind × List Token)
+object_at [] = None
+object_at (a ∷ []) = None
+object_at (a ∷ b ∷ []) = None
+object_at (a ∷ b ∷ c ∷ rest) = if is_keyword Int a.kind && is_mark Semicolon c.kind then Some (b.kind, rest) else None
+
+-- the objects that are declared at the front, and what comes behind
+unfoldable pub objects_at : List (List ℕ) → Declared → List Token → Option (Declared × List Token)
+objects_at names before [] = Some (before, [])
+objects_at names before (a ∷ []) = Some (before, a ∷ [])
+objects_at names before (a ∷ b ∷ []) = Some (before, a ∷ b ∷ [])
+objects_at names before (a ∷ b ∷ c ∷ rest) =
+    if is_keyword Int a.kind && is_mark Semicolon c.kind then declare names before b.kind >>= (λ after. objects_at names after rest)
+    else Some (before, a ∷ b ∷ c ∷ rest)
+
+-- ---- the head of `main`
+
+-- what stands behind the name `main`
+unfoldable pub main_at : List (List ℕ) → List Token → Option (List Token)
+main_at names tokens = do
+  name ← name_token_at tokens
+  if bytes_eq (name_at names name.1) (codes "main") then Some name.2 else None
+
+unfoldable pub head_at : List (List ℕ) → List Token → Option (List Token)
+head_at names tokens = do
+  a ← keyword_at Int tokens
+  b ← main_at names a
+  c ← mark_at OpenParen b
+  d ← keyword_at Void c
+  e ← mark_at CloseParen d
+  mark_at OpenBrace e
+
+-- ---- statements
+
+-- an operand's line and expression
+abbrev pub operand_of : List (Option ℕ) → ℕ → List Token → TokenKind → Option (ℕ × Expression × List Token)
+operand_of cells line rest (kinds.Name number) = do
+  cell ← cell_at cells number
+  Some (line, read line (Cell cell), rest)
+operand_of cells line rest (kinds.Constant value) = Some (line, constant line value, rest)
+operand_of cells line rest (kinds.Keyword keyword) = None
+operand_of cells line rest (kinds.Punct punct) = None
+
+unfoldable pub operand_at : List (Option ℕ) → List Token → Option (ℕ × Expression × List Token)
+operand_at cells [] = None
+operand_at cells (token ∷ rest) = operand_of cells token.line rest token.kind
+
+-- an assignment behind its target
+unfoldable pub assignment_at : List (Option ℕ) → ℕ → ℕ → List Token → Option (Statement × List Token)
+assignment_at cells line number tokens = do
+  cell ← cell_at cells number
+  a ← mark_at Assign tokens
+  value ← operand_at cells a
+  rest ← mark_at Semicolon value.2
+  Some (eval (assign line (Cell cell) value.1), rest)
+
+-- an assertion behind `assert`
+unfoldable pub assertion_at : List (Option ℕ) → ℕ → List Token → Option (Statement × List Token)
+assertion_at cells line tokens = do
+  a ← mark_at OpenParen tokens
+  left ← operand_at cells a
+  b ← mark_at Equal left.2
+  right ← operand_at cells b
+  c ← mark_at CloseParen right.2
+  rest ← mark_at Semicolon c
+  Some (eval (call line Assert (binary left.0 Eq widths.Int left.1 right.1)), rest)
+
+unfoldable pub statement_at : List (List ℕ) → List (Option ℕ) → List Token → Option (Statement × List Token)
+statement_at names cells tokens = do
+  name ← name_token_at tokens
+  if bytes_eq (name_at names name.1) (codes "assert") then assertion_at cells name.0 name.2 else assignment_at cells name.0 name.1 name.2
+
+-- only the closing brace is left
+unfoldable pub is_end : List Token → Bool
+is_end [] = false
+is_end (token ∷ []) = is_mark CloseBrace token.kind
+is_end (token ∷ next ∷ rest) = false
+
+-- these statements, and then the closing brace
+abbrev pub ReadStatements : List (List ℕ) → List (Option ℕ) → List Statement → List Token → Type 0
+ReadStatements names cells [] tokens = is_end tokens ≡ true
+ReadStatements names cells (statement ∷ statements) tokens =
+    (rest : List Token) × (statement_at names cells tokens ≡ Some (statement, rest)) × ReadStatements names cells statements rest
+
+-- ---- the whole
+
+-- what stands in front of the statements
+unfoldable pub front_at : List (List ℕ) → List Token → Option (Declared × List Token)
+front_at names tokens = do
+  objects ← objects_at names (nothing_declared (length names)) tokens
+  body ← head_at names objects.1
+  Some (objects.0, body)
+
+-- the tokens are read as this program
+pub record IsRead (names : List (List ℕ)) (tokens : List Token) (p : Program) : Type 0 where
+  pub declared : Declared
+  pub body : List Token
+  pub statements : List Statement
+  pub front : front_at names tokens ≡ Some (declared, body)
+  pub read : ReadStatements names declared.cells statements body
+  pub meaning : p ≡ record { cells = replicate declared.count 0; main = statements }

@@ -1,0 +1,18 @@
+-- Reading from left to right: a value, or nothing where the form does not stand.
+use Rattle.std.specs.Prelude.{◌≡◌, Option, Some, None, Result, Ok, Err}
+use Rattle.lz_parse.specs.declared.error.ParseError.{ParseError}
+use Rattle.lz_parse.specs.declared.error.ParseError.TheVariants as errors
+
+infixl 10 ◌>>=◌
+abbrev pub ◌>>=◌ : {A B : Type 0} → Option A → (A → Option B) → Option B
+(Some x) >>= f = f x
+None >>= f = None
+
+-- What a function returned, seen by view, is what reading gives, unless memory ran out.
+abbrev pub Fails : {Y : Type 0} → ParseError → Option Y → Type 0
+Fails errors.Memory read = Unit {0}
+Fails errors.NotTheForm read = read ≡ None
+
+abbrev pub Gives : {X Y : Type 0} → (X → Y) → Result X ParseError → Option Y → Type 0
+Gives view (Ok x) read = read ≡ Some (view x)
+Gives view (Err e) read = Fails e read
