@@ -1,7 +1,7 @@
 //! The decision of a program that has no choice, by evaluation. Such a program has one maximal run, and
 //! every run of it is a beginning of that one.
 
-ghost use Rattle.std.specs.Prelude.{◌≡◌, ◌<◌, ◌^◌, ◌++◌, length, map, All, IfOk, OnOk};
+ghost use Rattle.std.specs.Prelude.{◌≡◌, ◌<◌, [], ◌∷◌, ◌++◌, length, map, All, IfOk, OnOk};
 ghost use Rattle.std.specs.List.{AllByRecursion};
 ghost use Rattle.lz_tree.specs.Scopes.{expression, eval, statement, program, IsExpressionOf, IsStatementOf, IsWellFormed};
 ghost use Rattle.lz_cli.specs.Plays.{Evaluates, Executes, HasWord, cell_number, Decides};
@@ -23,6 +23,13 @@ const MAIN_STEP: Step = Step {
     thread: 0,
     choice: 0,
 };
+
+/// Adds the step of one action.
+fn add_step(steps: &mut Schedule) -> Result<(), Memory>
+    ensures { OnOk result (steps.new ≡ steps.old ++ MAIN_STEP ∷ []) }
+{
+    steps.push(MAIN_STEP)
+}
 
 /// The number of an object's cell.
 fn cell_of(object: Object) -> u32
@@ -49,7 +56,7 @@ fn evaluate(
         ScopedExpr::Constant { line: _, value } => Ok(Evaluated::Done { value: *value }),
         ScopedExpr::Read { line: _, object } => {
             let cell = cell_of(*object);
-            steps.push(MAIN_STEP)?;
+            add_step(steps)?;
             let value = cells[cell as usize];
             Ok(Evaluated::Done { value })
         }
@@ -82,7 +89,7 @@ fn evaluate(
                 Evaluated::Broke { kind, line } => return Ok(Evaluated::Broke { kind, line }),
             };
             let cell = cell_of(*object);
-            steps.push(MAIN_STEP)?;
+            add_step(steps)?;
             cells[cell as usize] = value;
             Ok(Evaluated::Done { value })
         }
@@ -95,7 +102,7 @@ fn evaluate(
                 Evaluated::Done { value } => value,
                 Evaluated::Broke { kind, line } => return Ok(Evaluated::Broke { kind, line }),
             };
-            steps.push(MAIN_STEP)?;
+            add_step(steps)?;
             if value == 0 {
                 return Ok(Evaluated::Broke {
                     kind: BreakKind::Assert,

@@ -27,10 +27,10 @@ returns-in-Broke-3-clause-evaluates t c =
     let value = rw (c.in-Broke-3.is, c.deref-in-Assign.ensures) at c.in_ok-value-in-Assign.ensures.evaluates in
     rw c.in-Assign.is (assign_broke _ _ _ _ _ _ _ _ _ value)
 
-pub returns-in_ok-push-in-Assign-clause-evaluates : goal.returns-in_ok-push-in-Assign-clause-evaluates
-returns-in_ok-push-in-Assign-clause-evaluates t c =
+pub returns-in_ok-add_step-in-Assign-clause-evaluates : goal.returns-in_ok-add_step-in-Assign-clause-evaluates
+returns-in_ok-add_step-in-Assign-clause-evaluates t c =
     let value = rw (c.in-Done-3.is, c.deref-in-Assign.ensures) at c.in_ok-value-in-Assign.ensures.evaluates in
-    rw (c.in-Assign.is, c.cell_of-cell-in-Assign.ensures) (assign_done _ _ _ _ _ _ _ _ _ value c.in_ok-push-in-Assign.ensures.ok)
+    rw (c.in-Assign.is, c.cell_of-cell-in-Assign.ensures) (assign_done _ _ _ _ _ _ _ _ _ value c.in_ok-add_step-in-Assign.ensures)
 
 pub returns-in-Broke-4-clause-evaluates : goal.returns-in-Broke-4-clause-evaluates
 returns-in-Broke-4-clause-evaluates t c =
@@ -40,16 +40,16 @@ returns-in-Broke-4-clause-evaluates t c =
 pub returns-then-value-eq0-clause-evaluates : goal.returns-then-value-eq0-clause-evaluates
 returns-then-value-eq0-clause-evaluates t c =
     let value = rw (c.in-Done-4.is, c.deref-in-Call.ensures) at c.in_ok-value-in-Call.ensures.evaluates in
-    rw c.in-Call.is (assertion_breaks _ _ _ _ _ _ _ _ _ c.if-value-eq0.true value c.in_ok-push-in-Call.ensures.ok)
+    rw c.in-Call.is (assertion_breaks _ _ _ _ _ _ _ _ _ c.if-value-eq0.true value c.in_ok-add_step-in-Call.ensures)
 
 pub returns-else-value-eq0-clause-evaluates : goal.returns-else-value-eq0-clause-evaluates
 returns-else-value-eq0-clause-evaluates t c =
     let value = rw (c.in-Done-4.is, c.deref-in-Call.ensures) at c.in_ok-value-in-Call.ensures.evaluates in
-    rw c.in-Call.is (assertion_holds _ _ _ _ _ _ _ _ _ c.if-value-eq0.false value c.in_ok-push-in-Call.ensures.ok)
+    rw c.in-Call.is (assertion_holds _ _ _ _ _ _ _ _ _ c.if-value-eq0.false value c.in_ok-add_step-in-Call.ensures)
 
-pub returns-in_ok-push-in-Read-clause-evaluates : goal.returns-in_ok-push-in-Read-clause-evaluates
-returns-in_ok-push-in-Read-clause-evaluates t c =
+pub returns-in_ok-add_step-in-Read-clause-evaluates : goal.returns-in_ok-add_step-in-Read-clause-evaluates
+returns-in_ok-add_step-in-Read-clause-evaluates t c =
     let cells = c.args.cells.now in
     let within = rw c.in-Read.is at c.requires.within in
     let below : c.cell_of-cell.result < length cells = rw c.cell_of-cell.ensures (object_within (length cells) c.in-Read.object within) in
-    rw c.in-Read.is (read_done _ _ _ _ _ _ (ap (slice_index cells) c.cell_of-cell.ensures) (c.requires.words c.cell_of-cell.result 0 below) c.in_ok-push-in-Read.ensures.ok)
+    rw c.in-Read.is (read_done _ _ _ _ _ _ (ap (slice_index cells) c.cell_of-cell.ensures) (c.requires.words c.cell_of-cell.result 0 below) c.in_ok-add_step-in-Read.ensures)
