@@ -1,0 +1,10 @@
+int first;
+int second;
+
+int main(void)
+{
+    first = 7;
+    second = first;
+    assert(second == 7);
+    assert(first == second);
+}
