@@ -1,5 +1,5 @@
 -- Bounds on the rounds of a list of thread numbers.
-use Rattle.std.proofs.Common.{ℕ, ◌+◌, ◌≤◌, Bool, true, false, cond, ltb, List, [], ◌∷◌, length, arith}
+use Rattle.std.proofs.Common.{ℕ, ◌≤◌, Bool, true, false, cond, ltb, List, [], ◌∷◌, length, arith}
 use Rattle.lz_model.specs.Rounds.{descents}
 
 one_at_most : (b : Bool) → cond b 1 0 ≤ 1

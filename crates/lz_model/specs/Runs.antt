@@ -36,5 +36,5 @@ part thread (event ∷ rest) = if event.thread == thread then act_of event ∷ p
 
 -- the events are a run of the program, where a loop has at most n turns
 pub record IsRun (p : Program) (n : ℕ) (run : List Event) : Type 0 where
-  pub parts : (thread : ℕ) → IsTrace p n thread (part thread run)
+  pub parts : (thread : ℕ) → IsTrace p n run thread (part thread run)
   pub goes : course run (opening p) ≢ stuck

@@ -82,7 +82,11 @@ pub data Flow : Type 0 where
 abbrev pub statement_trace : ℕ → Statement → Behaviour Flow
 statement_trace n (eval value) = expression_trace n value and_then λ v. ends_with normal
 
+-- what follows a statement that led on so
+abbrev pub led_on : Flow → Behaviour Flow → Behaviour Flow
+led_on normal rest = rest
+
 -- statements one after the other
 abbrev pub statements_trace : ℕ → List Statement → Behaviour Flow
 statements_trace n [] = ends_with normal
-statements_trace n (first ∷ rest) = statement_trace n first and_then λ flow. statements_trace n rest
+statements_trace n (first ∷ rest) = statement_trace n first and_then λ flow. led_on flow (statements_trace n rest)

@@ -1,5 +1,5 @@
-ghost use Rattle.std.specs.Prelude.{◌≡◌, ◌<◌, ◌^◌, map, length};
-ghost use Rattle.lz_model.specs.Rounds.{rounds_of};
+ghost use Rattle.std.specs.Prelude.{◌≡◌, ◌<◌, ◌^◌};
+ghost use Rattle.lz_model.specs.Rounds.{rounds_of, threads_of};
 
 use lz_base::Sequence;
 
@@ -16,8 +16,8 @@ pub type Schedule = Sequence<Step>;
 
 /// The rounds of a schedule: one more than the places where the thread number goes down.
 pub fn rounds(schedule: &Schedule) -> u32
-    requires { rounds_of (map (λ step. step.thread) schedule.now) < 2 ^ 32 }
-    ensures { result ≡ rounds_of (map (λ step. step.thread) schedule.now) }
+    requires { rounds_of (threads_of schedule.now) < 2 ^ 32 }
+    ensures { result ≡ rounds_of (threads_of schedule.now) }
 {
     let mut descents = 0u32;
     let mut before = 0u32;
