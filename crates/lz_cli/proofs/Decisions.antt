@@ -1,5 +1,5 @@
 -- From the course of `main` to the runs of the program.
-use Rattle.std.proofs.Common.{slice_index, slice_set, ◌≡◌, ◌≢◌, ℕ, zero, suc, ◌+◌, Bool, true, false, cond, ◌||◌, not, eqb, leb, List, [], ◌∷◌, ◌++◌, map, refl, sym, ◌∙◌, ap, subst, arith}
+use Rattle.std.proofs.Common.{length, replicate, slice_index, slice_set, ◌≡◌, ◌≢◌, ℕ, zero, suc, ◌+◌, Bool, true, false, cond, ◌||◌, not, eqb, leb, List, [], ◌∷◌, ◌++◌, refl, sym, ◌∙◌, ap, subst, arith}
 use Rattle.std.specs.List.{list_any}
 use Rattle.std.proofs.Math.Dec.{leb-suc-zero, eqb-zero-suc}
 use Rattle.lz_base.specs.declared.word.BreakKind.{BreakKind}
@@ -9,11 +9,11 @@ use Rattle.lz_model.specs.declared.action.Action.TheVariants.{Check, Rd, Wr, End
 use Rattle.lz_model.specs.declared.action.Event.{Event}
 use Rattle.lz_model.specs.declared.schedule.Step.{Step}
 use Rattle.lz_model.specs.Traces.{Act, cut, Flow, normal, does, statements_trace}
-use Rattle.lz_model.specs.ThreadTraces.{main_trace, IsTrace}
+use Rattle.lz_model.specs.ThreadTraces.{is_whole, main_trace, IsTrace}
 use Rattle.lz_model.specs.SharedState.{State, Acted, went, blocked, broke, is_halted, act_running, act, opening}
 use Rattle.lz_model.specs.Runs.{stuck, broken, course_after, course, act_of, part}
-use Rattle.lz_model.specs.Rounds.{descents, rounds_of}
-use Rattle.lz_model.specs.Violation.{IsBrokenRun, Violated}
+use Rattle.lz_model.specs.Rounds.{descents, rounds_of, threads_of}
+use Rattle.lz_model.specs.Violation.{IsBrokenRun, Violated, choice_of, step_with, steps_of}
 use Rattle.lz_cli.specs.declared.decide.Executed.TheVariants as executed
 use Rattle.lz_cli.specs.declared.decide.Decided.TheVariants.{Holds, Broken}
 use Rattle.lz_cli.specs.Plays.{running, main_event, main_events, main_steps, Goes, Breaks, Executes, Decides}
@@ -96,18 +96,33 @@ part_others thread [] = refl
 part_others thread (first ∷ acts) =
     ap (λ (b : Bool). cond b (act_of (main_event first) ∷ part (suc thread) (main_events acts)) (part (suc thread) (main_events acts))) (eqb-zero-suc thread) ∙ part_others thread acts
 
-no_descents : (acts : List Act) → descents (map (λ (step : Step). step.thread) (main_steps acts)) ≡ 0
-no_descents [] = refl
-no_descents (first ∷ []) = refl
-no_descents (first ∷ next ∷ acts) = let rest = no_descents (next ∷ acts) in omega (arith, rest)
+-- each action has one step, of thread 0 and without a choice
+one_step : (act : Act) → steps_of (main_event act) ≡ record { thread = 0; choice = 0 } ∷ []
+one_step act = by_action act.action
+  where
+    by_action : (action : Action) → step_with 0 (choice_of action) ≡ record { thread = 0; choice = 0 } ∷ []
+    by_action (Check value kind) = refl
+    by_action (Rd cell value) = refl
+    by_action (Wr cell value) = refl
+    by_action (End whole) = refl
 
-pub one_round : (acts : List Act) → rounds_of (map (λ (step : Step). step.thread) (main_steps acts)) ≡ 1
-one_round acts = ap (λ (d : ℕ). d + 1) (no_descents acts)
+threads-main_steps : (acts : List Act) → threads_of (main_steps acts) ≡ replicate (length acts) 0
+threads-main_steps [] = refl
+threads-main_steps (first ∷ acts) =
+    ap (λ (steps : List Step). threads_of (steps ++ main_steps acts)) (one_step first) ∙ ap (λ (threads : List ℕ). 0 ∷ threads) (threads-main_steps acts)
+
+no_descents : (n : ℕ) → descents (replicate n 0) ≡ 0
+no_descents zero = refl
+no_descents (suc zero) = refl
+no_descents (suc (suc n)) = let rest = no_descents (suc n) in omega (arith, rest)
+
+pub one_round : (acts : List Act) → rounds_of (threads_of (main_steps acts)) ≡ 1
+one_round acts = ap rounds_of (threads-main_steps acts) ∙ ap (λ (d : ℕ). d + 1) (no_descents (length acts))
 
 pub breaks_run : (p : Program) (n : ℕ) (acts : List Act) (kind : BreakKind) (line : ℕ) → Breaks (main_trace p n) (opening p) acts kind line → IsBrokenRun p n (main_events acts) kind line
 breaks_run p n acts kind line b = record { is = record { parts = traces; goes = not_stuck }; breaks = b.breaks }
   where
-    traces : (thread : ℕ) → IsTrace p n thread (part thread (main_events acts))
+    traces : (thread : ℕ) → IsTrace p n (main_events acts) thread (part thread (main_events acts))
     traces zero = (b.locals, cut, subst (λ (mine : List Act). main_trace p n [] mine b.locals cut) (sym (part_main acts)) b.trace)
     traces (suc thread) = part_others thread acts
 
@@ -123,7 +138,7 @@ done_decides p after steps h n k violated =
     let end : Act = record { action = End true; line = 0 } in
     let ended : State = record { cells = after; made = 0; ended = 0 ∷ []; over = true } in
     let last = Goes-one end normal (running after) ended refl in
-    let whole = Goes-then (statements_trace n p.main) (λ (flow : Flow). does end normal) (running p.cells) (running after) ended body.0 (end ∷ []) normal normal body.1 last in
+    let whole = Goes-then (statements_trace n p.main) (λ (flow : Flow). does (record { action = End (is_whole flow); line = 0 }) normal) (running p.cells) (running after) ended body.0 (end ∷ []) normal normal body.1 last in
     goes_holds p n k (body.0 ++ end ∷ []) ended whole violated
 
 pub break_decides : (p : Program) (after : List ℕ) (steps : List Step) (kind : BreakKind) (line : ℕ) → Executes p.main p.cells after [] steps (executed.Broke kind line) → Decides p (Broken steps kind line)
@@ -131,5 +146,5 @@ unfolding Executes
 break_decides p after steps kind line h n =
     let body = h n in
     let end : Act = record { action = End true; line = 0 } in
-    let whole = Breaks-first (statements_trace n p.main) (λ (flow : Flow). does end normal) (running p.cells) body.0 kind line body.1 in
-    (main_events body.0, breaks_run p n body.0 kind line whole, sym body.2, ap (λ (s : List Step). rounds_of (map (λ (step : Step). step.thread) s)) body.2 ∙ one_round body.0)
+    let whole = Breaks-first (statements_trace n p.main) (λ (flow : Flow). does (record { action = End (is_whole flow); line = 0 }) normal) (running p.cells) body.0 kind line body.1 in
+    (main_events body.0, breaks_run p n body.0 kind line whole, sym body.2, ap (λ (s : List Step). rounds_of (threads_of s)) body.2 ∙ one_round body.0)

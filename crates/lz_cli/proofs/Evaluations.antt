@@ -1,5 +1,7 @@
 -- How the evaluation of an expression comes out, from how that of its parts does.
-use Rattle.std.proofs.Common.{◌≡◌, ◌≢◌, ℕ, zero, suc, ◌<◌, arith, subst, List, [], ◌∷◌, ◌++◌, slice_index, slice_set, refl, sym, ◌∙◌, ap, append_assoc, map}
+use Rattle.std.proofs.Common.{◌≡◌, ◌≢◌, ℕ, zero, suc, ◌<◌, arith, subst, List, [], ◌∷◌, ◌++◌, slice_index, slice_set, refl, sym, ◌∙◌, ap, append_assoc}
+use Rattle.std.specs.List.{flat_map}
+use Rattle.std.proofs.lemmas.Grind.{flat_map-append}
 use Rattle.std.proofs.lemmas.List.{map-append, append-nil}
 use Rattle.lz_base.specs.Words.{binary_value}
 use Rattle.lz_base.specs.declared.operator.Binary.{Binary}
@@ -14,13 +16,13 @@ use Rattle.lz_tree.specs.Scopes.{Expression, constant, read, binary, assign, cal
 use Rattle.lz_model.specs.declared.action.Action.TheVariants.{Check, Rd, Wr}
 use Rattle.lz_model.specs.declared.schedule.Step.{Step}
 use Rattle.lz_model.specs.Traces.{Act, Behaviour, ends_with, ◌and_then◌, writes, checks, expression_trace}
-use Rattle.lz_model.specs.Violation.{step_of}
+use Rattle.lz_model.specs.Violation.{steps_of}
 use Rattle.lz_cli.specs.declared.decide.Evaluated.TheVariants.{Done, Broke}
 use Rattle.lz_cli.specs.Plays.{running, main_event, main_events, main_steps, Comes, ComesToBreak, Evaluates, cell_number}
 use Rattle.lz_cli.proofs.Compose.{Goes-then, Breaks-first, Breaks-second, Goes-nothing, Goes-read, Goes-write, Goes-check, Breaks-check}
 
 steps-append : (xs ys : List Act) → main_steps (xs ++ ys) ≡ main_steps xs ++ main_steps ys
-steps-append xs ys = ap (map step_of) (map-append main_event xs ys) ∙ map-append step_of (main_events xs) (main_events ys)
+steps-append xs ys = ap (flat_map steps_of) (map-append main_event xs ys) ∙ flat_map-append steps_of (main_events xs) (main_events ys)
 
 pub steps_on : (xs ys : List Act) (s0 s1 s2 : List Step) → s1 ≡ s0 ++ main_steps xs → s2 ≡ s1 ++ main_steps ys → s2 ≡ s0 ++ main_steps (xs ++ ys)
 steps_on xs ys s0 s1 s2 p q =

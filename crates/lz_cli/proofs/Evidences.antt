@@ -2,22 +2,9 @@
 use Rattle.std.proofs.Common.{◌≡◌, ℕ, zero, suc, ◌<◌, ◌⊎◌, inl, [], ◌∷◌, get_or, refl, arith}
 use Rattle.std.specs.List.{Contains}
 use Rattle.lz_cnf.specs.declared.clause.Lit.{Lit}
-use Rattle.lz_cnf.specs.declared.clause.Cnf.{Cnf}
 use Rattle.lz_cnf.specs.Models.{negated}
-use Rattle.lz_log.specs.declared.log.LogStep.{LogStep}
 use Rattle.lz_log.specs.Refutation.{Refutes, LeadsToFalse}
-
-abbrev positive : Lit
-positive = record { 0 = 0 }
-
-abbrev negative : Lit
-negative = record { 0 = 1 }
-
-abbrev pub both : Cnf
-both = record { variables = 1; clauses = (positive ∷ []) ∷ (negative ∷ []) ∷ [] }
-
-abbrev pub empty_step : LogStep
-empty_step = record { clause = []; hints = 1 ∷ 2 ∷ [] }
+use Rattle.lz_cli.specs.LeastRefutation.{positive, negative, both, empty_step}
 
 itself : (k : ℕ) (d : Lit) → k < 1 → (get_or (positive ∷ []) k d ≡ positive) ⊎ Contains [] (get_or (positive ∷ []) k d)
 itself zero d h = inl refl

@@ -6,7 +6,7 @@ use Rattle.lz_base.specs.declared.word.BreakKind.{BreakKind}
 use Rattle.lz_tree.specs.Scopes.{Expression, Statement, eval, statement, IsStatementOf, IsExpressionOf}
 use Rattle.lz_tree.specs.declared.scoped.ScopedStmt.{ScopedStmt}
 use Rattle.lz_model.specs.declared.schedule.Step.{Step}
-use Rattle.lz_model.specs.Traces.{Flow, normal, ends_with, expression_trace, statement_trace, statements_trace}
+use Rattle.lz_model.specs.Traces.{Flow, normal, ends_with, expression_trace, statement_trace, led_on, statements_trace}
 use Rattle.lz_cli.specs.declared.decide.Evaluated.TheVariants.{Done, Broke}
 use Rattle.lz_cli.specs.declared.decide.Executed.{Executed}
 use Rattle.lz_cli.specs.declared.decide.Executed.TheVariants as executed
@@ -27,16 +27,16 @@ pub executed_on : (e : Expression) (rest : List Statement) (c0 c1 c2 : List ℕ)
     → Evaluates e c0 c1 s0 s1 (Done value) → Executes rest c1 c2 s1 s2 came → Executes (eval e ∷ rest) c0 c2 s0 s2 came
 unfolding Evaluates Executes
 executed_on e rest c0 c1 c2 s0 s1 s2 value executed.Done p q = λ n.
-    Comes-then (statement_trace n (eval e)) (λ (flow : Flow). statements_trace n rest) c0 c1 c2 s0 s1 s2 normal normal (statement_done n e c0 c1 s0 s1 value (p n)) (q n)
+    Comes-then (statement_trace n (eval e)) (λ (flow : Flow). led_on flow (statements_trace n rest)) c0 c1 c2 s0 s1 s2 normal normal (statement_done n e c0 c1 s0 s1 value (p n)) (q n)
 executed_on e rest c0 c1 c2 s0 s1 s2 value (executed.Broke kind line) p q = λ n.
-    ComesToBreak-second (statement_trace n (eval e)) (λ (flow : Flow). statements_trace n rest) c0 c1 s0 s1 s2 normal kind line (statement_done n e c0 c1 s0 s1 value (p n)) (q n)
+    ComesToBreak-second (statement_trace n (eval e)) (λ (flow : Flow). led_on flow (statements_trace n rest)) c0 c1 s0 s1 s2 normal kind line (statement_done n e c0 c1 s0 s1 value (p n)) (q n)
 
 -- a statement that breaks a check
 pub executed_break : (e : Expression) (rest : List Statement) (c0 c1 : List ℕ) (s0 s1 : List Step) (kind : BreakKind) (line : ℕ)
     → Evaluates e c0 c1 s0 s1 (Broke kind line) → Executes (eval e ∷ rest) c0 c1 s0 s1 (executed.Broke kind line)
 unfolding Evaluates Executes
 executed_break e rest c0 c1 s0 s1 kind line p n =
-    ComesToBreak-first (statement_trace n (eval e)) (λ (flow : Flow). statements_trace n rest) c0 s0 s1 kind line
+    ComesToBreak-first (statement_trace n (eval e)) (λ (flow : Flow). led_on flow (statements_trace n rest)) c0 s0 s1 kind line
     (ComesToBreak-first (expression_trace n e) (λ (v : ℕ). ends_with normal) c0 s0 s1 kind line (p n))
 
 -- However the rest of the statements comes out from here, so does the whole from its beginning.

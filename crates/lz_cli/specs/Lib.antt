@@ -1,4 +1,5 @@
 pub mod CommandLine
+pub mod LeastRefutation
 pub mod Report
 pub mod Endings
 pub mod Plays

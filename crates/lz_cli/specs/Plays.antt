@@ -1,6 +1,8 @@
 -- The course of code that has no choice: what thread 0 does from a state in which no other thread is made.
--- Such code has one maximal course, and every trace of it that goes is a beginning of that course.
+-- Where the code goes, no trace of it breaks a check, and each trace of it that is done is this one or gets
+-- stuck; where it breaks, this course shows it.
 use Rattle.std.specs.Prelude.{◌≡◌, ◌≢◌, ℕ, false, ◌<◌, List, [], ◌++◌, map, ⊤}
+use Rattle.std.specs.List.{flat_map}
 use Rattle.lz_base.specs.declared.word.BreakKind.{BreakKind}
 use Rattle.lz_model.specs.declared.action.Event.{Event}
 use Rattle.lz_model.specs.declared.schedule.Step.{Step}
@@ -10,8 +12,8 @@ use Rattle.lz_tree.specs.Scopes.{Expression, Statement, Program}
 use Rattle.lz_model.specs.Traces.{Act, Outcome, done, cut, Behaviour, expression_trace, statements_trace, normal}
 use Rattle.lz_model.specs.SharedState.{State}
 use Rattle.lz_model.specs.Runs.{going, stuck, broken, course}
-use Rattle.lz_model.specs.Rounds.{rounds_of}
-use Rattle.lz_model.specs.Violation.{step_of, Violated, IsBrokenRun, Follows}
+use Rattle.lz_model.specs.Rounds.{rounds_of, threads_of}
+use Rattle.lz_model.specs.Violation.{steps_of, Violated, IsBrokenRun, Follows}
 use Rattle.lz_cli.specs.declared.decide.Evaluated.{Evaluated}
 use Rattle.lz_cli.specs.declared.decide.Evaluated.TheVariants.{Done, Broke}
 use Rattle.lz_cli.specs.declared.decide.Executed.{Executed}
@@ -32,7 +34,7 @@ main_events acts = map main_event acts
 
 -- the steps that a schedule has for the actions
 abbrev pub main_steps : List Act → List Step
-main_steps acts = map step_of (main_events acts)
+main_steps acts = flat_map steps_of (main_events acts)
 
 -- The code does these actions, each of which goes, and is done with the value in the later state.
 pub record Goes {A : Type 0} (code : Behaviour A) (state : State) (acts : List Act) (value : A) (later : State) : Type 0 where
@@ -76,7 +78,7 @@ Executes body before after steps later (executed.Broke kind line) = (n : ℕ) �
 abbrev pub Decides : Program → Decided → Type 0
 Decides p Holds = (n k : ℕ) → Violated p n k → ⊥
 Decides p (Broken schedule kind line) =
-    (n : ℕ) → (run : List Event) × IsBrokenRun p n run kind line × Follows run schedule × (rounds_of (map (λ step. step.thread) schedule) ≡ 1)
+    (n : ℕ) → (run : List Event) × IsBrokenRun p n run kind line × Follows run schedule × (rounds_of (threads_of schedule) ≡ 1)
 
 -- the number of an object's cell
 abbrev pub cell_number : Object → ℕ

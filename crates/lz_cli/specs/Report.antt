@@ -1,11 +1,11 @@
 -- The report of an ending, to the byte, and its status.
-use Rattle.std.specs.Prelude.{ℕ, ◌<◌, List, ◌++◌, map, codes, ⊤}
+use Rattle.std.specs.Prelude.{ℕ, ◌<◌, List, ◌++◌, codes, ⊤}
 use Rattle.std.specs.List.{flat_map}
 use Rattle.std.specs.Fmt.{decimal}
 use Rattle.lz_base.specs.declared.word.BreakKind.{BreakKind}
 use Rattle.lz_base.specs.declared.word.BreakKind.TheVariants.{Assert, Bounds, DivZero, Unlock, Wait, Join, Reached}
 use Rattle.lz_model.specs.declared.schedule.Step.{Step}
-use Rattle.lz_model.specs.Rounds.{rounds_of}
+use Rattle.lz_model.specs.Rounds.{rounds_of, threads_of}
 use Rattle.lz_cli.specs.declared.ending.Ending.{Ending}
 use Rattle.lz_cli.specs.declared.ending.Ending.TheVariants.{Successful, Failed, NotBuilt, FileTooLong, ReadFault, OutOfMemory}
 
@@ -22,9 +22,6 @@ kind_word Reached = codes "reached"
 -- one step of a schedule
 abbrev pub step_line : Step → List ℕ
 step_line step = codes "step " ++ decimal step.thread ++ codes " " ++ decimal step.choice ++ codes "\n"
-
-abbrev pub threads_of : List Step → List ℕ
-threads_of schedule = map (λ step. step.thread) schedule
 
 -- each line ends with a newline
 abbrev pub report : Ending → List ℕ

@@ -3,7 +3,7 @@
 ghost use Rattle.std.specs.Prelude.{◌≡◌, ◌≤◌, ℕ, List, length, IfOk, IfSome, IfNone};
 ghost use Rattle.lz_cli.specs.CommandLine.{begins_with_dash, IsFileName};
 ghost use Rattle.lz_cli.specs.Report.{report, status_of, IsPrintable};
-ghost use Rattle.lz_cli.specs.Endings.{Call, call_of, output_of, IsVerdict, IsLawful, IsToldOrCutOff, Answers};
+ghost use Rattle.lz_cli.specs.Endings.{Call, call_of, defaults, output_of, IsVerdict, IsLawful, IsDeliveredOrCutOff, Answers};
 
 use crate::decide::{Decided, decide};
 use crate::ending::Ending;
@@ -21,7 +21,7 @@ pub type Words = Sequence<Name>;
 /// How a call ended: the status that the program ends with, and what shows that the verdict is right.
 #[derive(Debug, Drop)]
 pub struct Ended {
-    /// 0 to 12, as the report says; 7 where the report could not be written whole.
+    /// 0, 1, 5, 6, 8 or 12, as the report says, or 7 where the report could not be written whole.
     pub status: u8,
     pub evidence: Evidence,
 }
@@ -62,6 +62,8 @@ pub fn run<F: Folder, O: Sink>(alloc: Global, words: &Words, folder: &mut F, out
         (call_of words.now (F.files folder.old) (F.read_faults folder.old) (F.read_faults folder.new))
         (output_of (O.written out.old) (O.written out.new) (O.faults out.old) (O.faults out.new))
         result.status result.evidence }
+    // Where the words name no file, nothing is read.
+    ensures not_read { ((name : List ℕ) → IsFileName words.now name → ⊥) → folder.new ≡ folder.old }
     ensures keeps_files { F.files folder.new ≡ F.files folder.old }
     ensures read_faults { F.read_faults folder.old ≤ F.read_faults folder.new }
     ensures faults { O.faults out.old ≤ O.faults out.new }
@@ -79,6 +81,7 @@ fn conclude<F: Folder>(alloc: Global, words: &Words, folder: &mut F) -> Result<C
         (call_of words.now (F.files folder.old) (F.read_faults folder.old) (F.read_faults folder.new))
         conclusion.ending conclusion.evidence) }
     ensures printable { IfOk result (λ conclusion. IsPrintable conclusion.ending) }
+    ensures not_read { ((name : List ℕ) → IsFileName words.now name → ⊥) → folder.new ≡ folder.old }
     ensures keeps_files { F.files folder.new ≡ F.files folder.old }
     ensures read_faults { F.read_faults folder.old ≤ F.read_faults folder.new }
 {
@@ -142,7 +145,7 @@ fn conclude_file<F: Folder>(
 /// The verdict on the bytes of a file.
 fn judge(alloc: Global, bytes: &[u8]) -> Result<Conclusion, Memory>
     requires { length bytes.now ≤ 1048576 }
-    ensures verdict { IfOk result (λ conclusion. IsVerdict bytes.now conclusion.ending conclusion.evidence) }
+    ensures verdict { IfOk result (λ conclusion. IsVerdict defaults bytes.now conclusion.ending conclusion.evidence) }
     ensures printable { IfOk result (λ conclusion. IsPrintable conclusion.ending) }
 {
     let scoped = match parse(alloc, bytes) {
@@ -193,7 +196,7 @@ fn tell<O: Sink>(alloc: Global, conclusion: Conclusion, out: &mut O) -> Ended
 /// Ends a call for want of memory. The report is written without taking any.
 pub fn end_out_of_memory<O: Sink>(out: &mut O) -> Ended
     ensures evidence { result.evidence ≡ Evidence.Nothing }
-    ensures told { IsToldOrCutOff
+    ensures delivered { IsDeliveredOrCutOff
         (output_of (O.written out.old) (O.written out.new) (O.faults out.old) (O.faults out.new))
         (report Ending.OutOfMemory) (status_of Ending.OutOfMemory) result.status }
     ensures faults { O.faults out.old ≤ O.faults out.new }
@@ -209,7 +212,7 @@ pub fn end_out_of_memory<O: Sink>(out: &mut O) -> Ended
 /// Writes a report and ends with its status, or with 7 where the sink fails.
 fn deliver<O: Sink>(out: &mut O, text: &[u8], status: u8, evidence: Evidence) -> Ended
     ensures evidence { result.evidence ≡ evidence }
-    ensures told { IsToldOrCutOff
+    ensures delivered { IsDeliveredOrCutOff
         (output_of (O.written out.old) (O.written out.new) (O.faults out.old) (O.faults out.new))
         text.now status result.status }
     ensures faults { O.faults out.old ≤ O.faults out.new }

@@ -1,5 +1,5 @@
-//! The decision of a program that has no choice, by evaluation. Such a program has one maximal run, and
-//! every run of it is a beginning of that one.
+//! The decision of a program that has no choice, by evaluation. Where evaluation comes to the end, no run
+//! breaks a check; where it breaks one, the run that was evaluated shows it.
 
 ghost use Rattle.std.specs.Prelude.{◌≡◌, ◌<◌, [], ◌∷◌, ◌++◌, length, map, All, IfOk, OnOk};
 ghost use Rattle.std.specs.List.{AllByRecursion};

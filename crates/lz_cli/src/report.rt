@@ -3,8 +3,8 @@
 ghost use Rattle.std.specs.Prelude.{◌≡◌, ◌<◌, ◌++◌, codes, OnOk, IfOk, List};
 ghost use Rattle.std.specs.List.{flat_map};
 ghost use Rattle.std.specs.Fmt.{decimal};
-ghost use Rattle.lz_model.specs.Rounds.{rounds_of};
-ghost use Rattle.lz_cli.specs.Report.{report, kind_word, step_line, threads_of, status_of, IsPrintable};
+ghost use Rattle.lz_model.specs.Rounds.{rounds_of, threads_of};
+ghost use Rattle.lz_cli.specs.Report.{report, kind_word, step_line, status_of, IsPrintable};
 
 use crate::ending::Ending;
 use itoa::Buffer;

@@ -12,7 +12,7 @@ pub returns-in-Holds-clause-verdict : goal.returns-in-Holds-clause-verdict
 returns-in-Holds-clause-verdict c =
     let holds = rw c.in-Holds.is at c.in_ok-decide.ensures in
     let made = c.in_ok-formula-in-Holds.ensures in
-    success _ (program c.in-Ok.scoped) _ _ c.in-Ok.ensures.found holds made.refutes made.no_model made.one_step
+    success _ (program c.in-Ok.scoped) _ _ c.in-Ok.ensures.found holds made.formula made.refutes made.no_model made.one_step
 
 pub returns-clause-verdict : goal.returns-clause-verdict
 returns-clause-verdict c =
