@@ -42,9 +42,6 @@ bind_at o f x e = rw e refl
 
 -- ---- declarations
 
-is_object : Token → Token → Bool
-is_object a c = is_keyword Int a.kind && is_mark Semicolon c.kind
-
 -- what an object takes from the front
 pub object_is : (tokens : List Token) (x : TokenKind × List Token) → object_at tokens ≡ Some x
     → (a b c : Token) × (tokens ≡ a ∷ b ∷ c ∷ x.1) × (b.kind ≡ x.0) × ((is_keyword Int a.kind && is_mark Semicolon c.kind) ≡ true)

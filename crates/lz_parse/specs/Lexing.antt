@@ -98,6 +98,15 @@ abbrev pub IsOfPiece : List (List ℕ) → Piece → Option TokenKind → Type 0
 IsOfPiece names piece None = (byte : ℕ) × (piece ≡ blank byte)
 IsOfPiece names piece (Some kind) = (piece ≡ kind_piece names kind) × IsKindOf names kind
 
+-- the value of a constant's digits, where they spell one of `int` without a leading 0
+abbrev pub IsConstant : List ℕ → Option ℕ → Type 0
+IsConstant digits None = (value : ℕ) → value ≤ 2147483647 → digits ≡ decimal value → ⊥
+IsConstant digits (Some value) = (value ≤ 2147483647) × (digits ≡ decimal value)
+
+-- the number of a name
+abbrev pub IsNumberOf : List (List ℕ) → List ℕ → ℕ → Type 0
+IsNumberOf names name place = (name_at names place ≡ name) × (place < length names)
+
 -- a piece is taken: its lexeme is at the end of those so far
 pub record Takes (line : ℕ) (piece : Piece) (names : List (List ℕ)) (tokens : List Token) (names' : List (List ℕ)) (tokens' : List Token) : Type 0 where
   pub sound : AreTokens names tokens → AreTokens names' tokens'

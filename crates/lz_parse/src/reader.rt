@@ -66,6 +66,7 @@ pub fn name(tokens: &[Token]) -> Result<(u32, u32, &[Token]), ParseError>
 pub fn is_named(names: &[Name], number: u32, text: &str) -> bool
     ensures { result ≡ bytes_eq (name_at names.now number) text.now }
 {
+    // No token of the lexer has a number past the names.
     match names.get(number as usize) {
         Some(name) => name.text() == text,
         None => text.is_empty(),

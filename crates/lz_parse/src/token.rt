@@ -1,11 +1,10 @@
-ghost use Rattle.std.specs.Prelude.{◌≡◌, ℕ, ◌≤◌, ◌<◌, MatchOption, IfOk, IsErrOf, OnOk, length, Some};
+ghost use Rattle.std.specs.Prelude.{◌≡◌, ◌<◌, IfOk, IsErrOf, OnOk, length, Some};
 ghost use Rattle.std.specs.Str.{IsAscii};
-ghost use Rattle.std.specs.Fmt.{decimal};
 ghost use Rattle.lz_tree.specs.Tokens.{word, IsWord, IsDigits, IsPiece};
 ghost use Rattle.lz_parse.specs.declared.error.ParseError.TheVariants.{NotTheForm};
 ghost use Rattle.lz_tree.specs.declared.token.Keyword.{Keyword};
 ghost use Rattle.lz_parse.specs.Cutting.{piece_of};
-ghost use Rattle.lz_parse.specs.Lexing.{texts, keyword_text, name_at, Adds, IsOfPiece, IsFormPiece, Takes, line_behind};
+ghost use Rattle.lz_parse.specs.Lexing.{texts, keyword_text, Adds, IsOfPiece, IsFormPiece, IsConstant, IsNumberOf, Takes, line_behind};
 
 use crate::error::ParseError;
 use crate::piece::Piece;
@@ -22,7 +21,7 @@ fn text(bytes: &[u8]) -> &str
 /// The value of a decimal constant without a leading 0, if it is one of `int` (C99 6.4.4.1).
 fn constant(digits: &[u8]) -> Option<u64>
     requires { IsDigits digits.now }
-    ensures value { MatchOption result ((value : ℕ) → value ≤ 2147483647 → digits.now ≡ decimal value → ⊥) (λ value. (value ≤ 2147483647) × (digits.now ≡ decimal value)) }
+    ensures { IsConstant digits.now result }
 {
     if digits.len() > 1 && digits[0] == b'0' {
         return None;
@@ -38,7 +37,8 @@ fn constant(digits: &[u8]) -> Option<u64>
 fn name_number<'a>(words: &mut IndexSet<&'a str>, name: &'a str) -> Result<u32, ParseError>
     requires room { length words.old.keys < 1048576 }
     requires plain { (keyword : Keyword) → name.now ≡ keyword_text keyword → ⊥ }
-    ensures ok { IfOk result (λ number. Adds (texts words.old.keys) (texts words.new.keys) × (name_at (texts words.new.keys) number ≡ name.now) × (number < length (texts words.new.keys))) }
+    ensures adds { OnOk result (Adds (texts words.old.keys) (texts words.new.keys)) }
+    ensures number { IfOk result (IsNumberOf (texts words.new.keys) name.now) }
     ensures none { IsErrOf result NotTheForm → ⊥ }
 {
     let (index, _) = words.insert_full(name)?;
@@ -49,7 +49,8 @@ fn name_number<'a>(words: &mut IndexSet<&'a str>, name: &'a str) -> Result<u32, 
 fn word_kind<'a>(words: &mut IndexSet<&'a str>, letters: &'a [u8]) -> Result<TokenKind, ParseError>
     requires room { length words.old.keys < 1048576 }
     requires word { IsWord letters.now }
-    ensures ok { IfOk result (λ kind. Adds (texts words.old.keys) (texts words.new.keys) × IsOfPiece (texts words.new.keys) (word letters.now) (Some kind)) }
+    ensures adds { OnOk result (Adds (texts words.old.keys) (texts words.new.keys)) }
+    ensures kind { IfOk result (λ kind. IsOfPiece (texts words.new.keys) (word letters.now) (Some kind)) }
     ensures none { IsErrOf result NotTheForm → ⊥ }
 {
     let name = text(letters);
@@ -72,7 +73,8 @@ fn kind_of<'a>(
 ) -> Result<Option<TokenKind>, ParseError>
     requires room { length words.old.keys < 1048576 }
     requires piece { IsPiece (piece_of piece) }
-    ensures ok { IfOk result (λ kind. Adds (texts words.old.keys) (texts words.new.keys) × IsOfPiece (texts words.new.keys) (piece_of piece.entry) kind) }
+    ensures adds { OnOk result (Adds (texts words.old.keys) (texts words.new.keys)) }
+    ensures kind { IfOk result (IsOfPiece (texts words.new.keys) (piece_of piece.entry)) }
     ensures none { IsErrOf result NotTheForm → IsFormPiece (piece_of piece.entry) → ⊥ }
 {
     match piece {
@@ -98,7 +100,8 @@ pub fn take_piece<'a>(
 ) -> Result<(), ParseError>
     requires room { length words.old.keys < 1048576 }
     requires piece { IsPiece (piece_of piece) }
-    ensures ok { OnOk result (Takes line (piece_of piece.entry) (texts words.old.keys) list.old (texts words.new.keys) list.new) }
+    ensures ok { OnOk result (Takes line (piece_of piece.entry)
+        (texts words.old.keys) list.old (texts words.new.keys) list.new) }
     ensures none { IsErrOf result NotTheForm → IsFormPiece (piece_of piece.entry) → ⊥ }
 {
     match kind_of(words, piece)? {

@@ -4,17 +4,17 @@ use Rattle.lz_parse.proofs.token.constant.Goals.{else-digits-gt1-via-then-digits
 use Rattle.lz_parse.proofs.token.constant.Goals as goal
 
 pub returns-then-digits-eq48 : goal.returns-then-digits-eq48
-returns-then-digits-eq48 c = record { value = λ value le e. no_leading c.args.digits.now value le e c.if-digits-eq48.true c.if-digits-gt1.true }
+returns-then-digits-eq48 c = λ value le e. no_leading c.args.digits.now value le e c.if-digits-eq48.true c.if-digits-gt1.true
 
 pub returns-in_err-value : goal.returns-in_err-value
 returns-in_err-value c =
     let read = rw c.text.ensures at c.parse.ensures.value.0 in
-    record { value = rw c.from_residual.ensures (λ value le e. not_read c.args.digits.now c.parse.result read c.in_err-value.ensures.value value le e) }
+    rw c.from_residual.ensures (λ value le e. not_read c.args.digits.now c.parse.result read c.in_err-value.ensures.value value le e)
 
 pub returns-then-value-gt2147483647 : goal.returns-then-value-gt2147483647
 returns-then-value-gt2147483647 c =
     let read = rw c.text.ensures at c.parse.ensures.value.0 in
-    record { value = λ value le e. too_large c.args.digits.now c.parse.result c.in_ok-value.value read c.in_ok-value.ensures.value c.if-value-gt2147483647.true value le e }
+    λ value le e. too_large c.args.digits.now c.parse.result c.in_ok-value.value read c.in_ok-value.ensures.value c.if-value-gt2147483647.true value le e
 
 pub returns : goal.returns
 returns c =
@@ -24,4 +24,4 @@ returns c =
       | else-digits-gt1-via-then-digits-gt1+else-digits-eq48 w ↦ absurd (w.if-digits-eq48.false z)
       | else-digits-gt1-via-else-digits-gt1 w ↦ omega (arith, w.if-digits-gt1.false)
     ] in
-    record { value = (c.if-value-gt2147483647.false, value_spells c.args.digits.now c.parse.result c.in_ok-value.value c.requires read (sym c.in_ok-value.ensures.value) leading) }
+    (c.if-value-gt2147483647.false, value_spells c.args.digits.now c.parse.result c.in_ok-value.value c.requires read (sym c.in_ok-value.ensures.value) leading)
