@@ -1,12 +1,12 @@
 -- The first form of a program: declarations of `int` objects, then one `main` of assignments and
--- assertions. How its tokens spell it, which names it may have, and which program it means.
-use Rattle.std.specs.Prelude.{◌≡◌, ℕ, ◌+◌, ◌≤◌, Bool, true, false, ◌||◌, List, [], ◌∷◌, ◌++◌, length, map, codes, replicate, if◌then◌else◌, ⊤}
+-- assertions over sums. How its tokens spell it, which names it may have, and which program it means.
+use Rattle.std.specs.Prelude.{◌≡◌, ℕ, ◌+◌, ◌≤◌, Bool, true, false, ◌||◌, List, [], ◌∷◌, ◌++◌, length, map, codes, if◌then◌else◌, Option, Some, None, IfSome, unwrap_or, ⊤}
 use Rattle.std.specs.List.{list_any, AllByRecursion}
 use Rattle.std.specs.Str.{bytes_eq}
 use Rattle.std.specs.Fmt.{decimal}
-use Rattle.lz_base.specs.declared.operator.Binary.TheVariants.{Eq}
+use Rattle.lz_base.specs.declared.operator.Binary.TheVariants.{Add, Eq}
 use Rattle.lz_base.specs.declared.word.IntType.TheVariants.{Int}
-use Rattle.lz_tree.specs.declared.token.Punct.TheVariants.{OpenParen, CloseParen, OpenBrace, CloseBrace, Semicolon, Assign, Equal}
+use Rattle.lz_tree.specs.declared.token.Punct.TheVariants.{OpenParen, CloseParen, OpenBrace, CloseBrace, Semicolon, Assign, Equal, Plus}
 use Rattle.lz_tree.specs.declared.scoped.KnownName.TheVariants.{Assert}
 use Rattle.lz_tree.specs.declared.scoped.Object.TheVariants.{Cell}
 use Rattle.lz_tree.specs.Tokens.{Piece, word, number, mark, Lexeme, HasLexemes}
@@ -15,16 +15,26 @@ use Rattle.lz_tree.specs.Scopes.{Expression, constant, read, binary, assign, cal
 -- An operand: a name or a constant, and the line on which it stands.
 pub data Operand : Type 0 where
   named : (line : ℕ) (name : List ℕ) → Operand
-  number_of : (line value : ℕ) → Operand
+  valued : (line value : ℕ) → Operand
 
--- `NAME = operand ;` or `assert ( operand == operand ) ;`, with the line of its first token
+-- A sum: one operand and those that are added to it, from left to right.
+pub record Sum : Type 0 where
+  pub first : Operand
+  pub added : List Operand
+
+-- `NAME = sum ;` or `assert ( sum == sum ) ;`, with the line of its first token
 pub data FormStatement : Type 0 where
-  assignment : (line : ℕ) (target : List ℕ) (value : Operand) → FormStatement
-  assertion : (line : ℕ) (left right : Operand) → FormStatement
+  assignment : (line : ℕ) (target : List ℕ) (value : Sum) → FormStatement
+  assertion : (line : ℕ) (left right : Sum) → FormStatement
 
--- the names of the declared objects, and what `main` does
+-- `int NAME ;` or `int NAME = CONSTANT ;`
+pub record Declaration : Type 0 where
+  pub name : List ℕ
+  pub initializer : Option ℕ
+
+-- the declared objects, and what `main` does
 pub record FirstForm : Type 0 where
-  pub objects : List (List ℕ)
+  pub objects : List Declaration
   pub statements : List FormStatement
 
 -- ---- spelling
@@ -35,17 +45,33 @@ lexeme line piece = record { line = line; piece = piece }
 -- an operand's one lexeme: a constant is decimal, without a leading 0 and without a suffix
 abbrev pub operand_lexeme : Operand → Lexeme
 operand_lexeme (named line name) = lexeme line (word name)
-operand_lexeme (number_of line value) = lexeme line (number (decimal value))
+operand_lexeme (valued line value) = lexeme line (number (decimal value))
 
--- the lexemes begin with `int NAME ;`, and these come after it
-abbrev pub BeginsWithObject : List ℕ → List Lexeme → List Lexeme → Type 0
-BeginsWithObject name lexemes after =
+-- the lexemes begin with `+ operand` for each of the operands, and these come after it
+abbrev pub BeginsWithAdded : List Operand → List Lexeme → List Lexeme → Type 0
+BeginsWithAdded [] lexemes after = lexemes ≡ after
+BeginsWithAdded (operand ∷ operands) lexemes after =
+    (a : ℕ) × (rest : List Lexeme) × (lexemes ≡ lexeme a (mark Plus) ∷ operand_lexeme operand ∷ rest) × BeginsWithAdded operands rest after
+
+abbrev pub BeginsWithSum : Sum → List Lexeme → List Lexeme → Type 0
+BeginsWithSum sum lexemes after =
+    (rest : List Lexeme) × (lexemes ≡ operand_lexeme sum.first ∷ rest) × BeginsWithAdded sum.added rest after
+
+-- `int NAME ;`, or with `= CONSTANT` before the semicolon
+abbrev pub BeginsWithDeclared : List ℕ → Option ℕ → List Lexeme → List Lexeme → Type 0
+BeginsWithDeclared name None lexemes after =
     (a b c : ℕ) × (lexemes ≡ lexeme a (word (codes "int")) ∷ lexeme b (word name) ∷ lexeme c (mark Semicolon) ∷ after)
+BeginsWithDeclared name (Some value) lexemes after =
+    (a b c d e : ℕ) × (lexemes ≡ lexeme a (word (codes "int")) ∷ lexeme b (word name) ∷ lexeme c (mark Assign)
+    ∷ lexeme d (number (decimal value)) ∷ lexeme e (mark Semicolon) ∷ after)
 
-abbrev pub BeginsWithObjects : List (List ℕ) → List Lexeme → List Lexeme → Type 0
+abbrev pub BeginsWithObject : Declaration → List Lexeme → List Lexeme → Type 0
+BeginsWithObject object lexemes after = BeginsWithDeclared object.name object.initializer lexemes after
+
+abbrev pub BeginsWithObjects : List Declaration → List Lexeme → List Lexeme → Type 0
 BeginsWithObjects [] lexemes after = lexemes ≡ after
-BeginsWithObjects (name ∷ names) lexemes after =
-    (rest : List Lexeme) × BeginsWithObject name lexemes rest × BeginsWithObjects names rest after
+BeginsWithObjects (object ∷ objects) lexemes after =
+    (rest : List Lexeme) × BeginsWithObject object lexemes rest × BeginsWithObjects objects rest after
 
 -- `int main ( void ) {`
 abbrev pub BeginsWithHead : List Lexeme → List Lexeme → Type 0
@@ -55,10 +81,12 @@ BeginsWithHead lexemes after =
 
 abbrev pub BeginsWithStatement : FormStatement → List Lexeme → List Lexeme → Type 0
 BeginsWithStatement (assignment line target value) lexemes after =
-    (a b : ℕ) × (lexemes ≡ lexeme line (word target) ∷ lexeme a (mark Assign) ∷ operand_lexeme value ∷ lexeme b (mark Semicolon) ∷ after)
+    (a b : ℕ) × (rest : List Lexeme) × (lexemes ≡ lexeme line (word target) ∷ lexeme a (mark Assign) ∷ rest)
+    × BeginsWithSum value rest (lexeme b (mark Semicolon) ∷ after)
 BeginsWithStatement (assertion line left right) lexemes after =
-    (a b c d : ℕ) × (lexemes ≡ lexeme line (word (codes "assert")) ∷ lexeme a (mark OpenParen) ∷ operand_lexeme left
-    ∷ lexeme b (mark Equal) ∷ operand_lexeme right ∷ lexeme c (mark CloseParen) ∷ lexeme d (mark Semicolon) ∷ after)
+    (a b c d : ℕ) × (rest middle : List Lexeme) × (lexemes ≡ lexeme line (word (codes "assert")) ∷ lexeme a (mark OpenParen) ∷ rest)
+    × BeginsWithSum left rest (lexeme b (mark Equal) ∷ middle)
+    × BeginsWithSum right middle (lexeme c (mark CloseParen) ∷ lexeme d (mark Semicolon) ∷ after)
 
 -- the statements and then the closing brace, with nothing after it
 abbrev pub AreStatements : List FormStatement → List Lexeme → Type 0
@@ -110,20 +138,35 @@ abbrev pub AreNew : List (List ℕ) → List (List ℕ) → Type 0
 AreNew before [] = ⊤
 AreNew before (name ∷ names) = (is_among before name ≡ false) × AreNew (before ++ name ∷ []) names
 
--- a name that is used is declared, and a constant is a value of `int`
+abbrev pub names_of : List Declaration → List (List ℕ)
+names_of objects = map (λ object. object.name) objects
+
+-- a constant is a value of `int`
+abbrev pub IsConstant : ℕ → Type 0
+IsConstant value = value ≤ 2147483647
+
+-- a name that is used is declared
 abbrev pub IsOperandOf : List (List ℕ) → Operand → Type 0
-IsOperandOf objects (named line name) = is_among objects name ≡ true
-IsOperandOf objects (number_of line value) = value ≤ 2147483647
+IsOperandOf names (named line name) = is_among names name ≡ true
+IsOperandOf names (valued line value) = IsConstant value
+
+-- a sum has at most 100 operands
+pub record IsSumOf (names : List (List ℕ)) (sum : Sum) : Type 0 where
+  pub operand : IsOperandOf names sum.first
+  pub operands : AllByRecursion (IsOperandOf names) sum.added
+  pub at_most : length sum.added ≤ 99
 
 abbrev pub IsFormStatementOf : List (List ℕ) → FormStatement → Type 0
-IsFormStatementOf objects (assignment line target value) = (is_among objects target ≡ true) × IsOperandOf objects value
-IsFormStatementOf objects (assertion line left right) = IsOperandOf objects left × IsOperandOf objects right
+IsFormStatementOf names (assignment line target value) = (is_among names target ≡ true) × IsSumOf names value
+IsFormStatementOf names (assertion line left right) = IsSumOf names left × IsSumOf names right
 
--- no declared name is reserved, each is declared once, and each that is used is declared
+-- no declared name is reserved, each is declared once, each that is used is declared, and each constant is a
+-- value of `int`
 pub record HasNames (form : FirstForm) : Type 0 where
-  pub free : AllByRecursion (λ name. is_reserved name ≡ false) form.objects
-  pub new : AreNew [] form.objects
-  pub used : AllByRecursion (IsFormStatementOf form.objects) form.statements
+  pub free : AllByRecursion (λ object. is_reserved object.name ≡ false) form.objects
+  pub new : AreNew [] (names_of form.objects)
+  pub initializers : AllByRecursion (λ object. IfSome object.initializer IsConstant) form.objects
+  pub used : AllByRecursion (IsFormStatementOf (names_of form.objects)) form.statements
 
 -- ---- meaning
 
@@ -133,22 +176,35 @@ number_in [] name = 0
 number_in (first ∷ names) name = if bytes_eq name first then 0 else number_in names name + 1
 
 abbrev pub operand_meant : List (List ℕ) → Operand → Expression
-operand_meant objects (named line name) = read line (Cell (number_in objects name))
-operand_meant objects (number_of line value) = constant line value
+operand_meant names (named line name) = read line (Cell (number_in names name))
+operand_meant names (valued line value) = constant line value
 
 abbrev pub operand_line : Operand → ℕ
 operand_line (named line name) = line
-operand_line (number_of line value) = line
+operand_line (valued line value) = line
+
+-- a sum so far with more operands, grouped to the left; each sum begins on the line of the first operand
+abbrev pub added_meant : List (List ℕ) → ℕ → Expression → List Operand → Expression
+added_meant names line so_far [] = so_far
+added_meant names line so_far (operand ∷ operands) =
+    added_meant names line (binary line Add Int so_far (operand_meant names operand)) operands
+
+abbrev pub sum_meant : List (List ℕ) → Sum → Expression
+sum_meant names sum = added_meant names (operand_line sum.first) (operand_meant names sum.first) sum.added
 
 abbrev pub statement_meant : List (List ℕ) → FormStatement → Statement
-statement_meant objects (assignment line target value) =
-    eval (assign line (Cell (number_in objects target)) (operand_meant objects value))
-statement_meant objects (assertion line left right) =
-    eval (call line Assert (binary (operand_line left) Eq Int (operand_meant objects left) (operand_meant objects right)))
+statement_meant names (assignment line target value) =
+    eval (assign line (Cell (number_in names target)) (sum_meant names value))
+statement_meant names (assertion line left right) =
+    eval (call line Assert (binary (operand_line left.first) Eq Int (sum_meant names left) (sum_meant names right)))
 
--- the program that a form means: its objects are cells in the order of their declarations, and start at 0
+-- the program that a form means: its objects are cells in the order of their declarations, and start at their
+-- initializer or at 0
 abbrev pub meant : FirstForm → Program
-meant form = record { cells = replicate (length form.objects) 0; main = map (statement_meant form.objects) form.statements }
+meant form = record {
+  cells = map (λ object. unwrap_or object.initializer 0) form.objects;
+  main = map (statement_meant (names_of form.objects)) form.statements;
+}
 
 -- ---- a file of the first form
 

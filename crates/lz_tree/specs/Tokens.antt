@@ -4,7 +4,7 @@ use Rattle.std.specs.Prelude.{◌≡◌, ℕ, ◌+◌, ◌≤◌, ◌==◌, Bool
 use Rattle.std.specs.Char.{is_ascii_digit, is_ascii_alphabetic}
 use Rattle.std.specs.List.{list_all}
 use Rattle.lz_tree.specs.declared.token.Punct.{Punct}
-use Rattle.lz_tree.specs.declared.token.Punct.TheVariants.{OpenParen, CloseParen, OpenBrace, CloseBrace, Semicolon, Assign, Equal}
+use Rattle.lz_tree.specs.declared.token.Punct.TheVariants.{OpenParen, CloseParen, OpenBrace, CloseBrace, Semicolon, Assign, Equal, Plus, Increment, AddAssign}
 
 -- A piece: one blank byte, a word (a name or a keyword), the digits of a number, or a punctuator.
 pub data Piece : Type 0 where
@@ -22,6 +22,9 @@ punct_text CloseBrace = codes "}"
 punct_text Semicolon = codes ";"
 punct_text Assign = codes "="
 punct_text Equal = codes "=="
+punct_text Plus = codes "+"
+punct_text Increment = codes "++"
+punct_text AddAssign = codes "+="
 
 -- the bytes of a piece
 abbrev pub text : Piece → List ℕ

@@ -44,6 +44,12 @@ pub enum Punct {
     Assign,
     /// `==`
     Equal,
+    /// `+`
+    Plus,
+    /// `++`
+    Increment,
+    /// `+=`
+    AddAssign,
 }
 
 /// Tokens in the order of the text.
