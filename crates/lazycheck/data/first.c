@@ -1,10 +1,7 @@
-int first;
-int second;
-
+int x;
 int main(void)
 {
-    first = 7;
-    second = first;
-    assert(second == 7);
-    assert(first == second);
+    x = 1;
+    x = x + 1;
+    assert(x == 2);
 }

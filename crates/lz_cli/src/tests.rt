@@ -58,7 +58,7 @@ fn has_proof(ended: &Ended) -> bool {
 #[test]
 fn reports_of_files_and_words(rt: HostRuntime) -> Result<(), Fail> {
     let success = "SUCCESSFUL unwind 2 rounds 2\n";
-    let table: [(&[&str], &str, &str, u8); 14] = [
+    let table: [(&[&str], &str, &str, u8); 18] = [
         (&["a.c"], "int main(void){}", success, 0),
         (
             &["a.c"],
@@ -83,6 +83,30 @@ fn reports_of_files_and_words(rt: HostRuntime) -> Result<(), Fail> {
             "int main(void) { assert(0 == 1); }",
             "FAILED\ncheck assert line 1\nrounds 1\nstep 0 0\n",
             1,
+        ),
+        (
+            &["a.c"],
+            "int x; int main(void) { x = 1; x = x + 1; assert(x == 2); }",
+            success,
+            0,
+        ),
+        (
+            &["a.c"],
+            "int x = 2147483647; int main(void) { assert(x + 1 == 0); }",
+            "FAILED\ncheck assert line 1\nrounds 1\nstep 0 0\nstep 0 0\n",
+            1,
+        ),
+        (
+            &["a.c"],
+            "int x = 2147483647; int main(void) { x = x + x + 2; assert(x == 0); }",
+            success,
+            0,
+        ),
+        (
+            &["a.c"],
+            "int main(void) { assert(1 + +2 == 3); }",
+            "NOTBUILT line 0\n",
+            12,
         ),
         (
             &["a.c"],

@@ -20,7 +20,7 @@ pub returns-in-Done-2-clause-evaluates : goal.returns-in-Done-2-clause-evaluates
 returns-in-Done-2-clause-evaluates t c =
     let left = rw (c.in-Done.is, c.deref.ensures) at c.in_ok-value-in-Binary.ensures.evaluates in
     let right = rw (c.in-Done-2.is, c.deref-in-Binary.ensures) at c.in_ok-value-in-Binary-2.ensures.evaluates in
-    rw c.in-Binary.is (binary_done _ _ _ _ _ _ _ _ _ _ _ _ _ _ c.binary.ensures left right)
+    rw c.in-Binary.is (binary_done _ _ _ _ _ _ _ _ _ _ _ _ _ _ c.binary.ensures.value left right)
 
 pub returns-in-Broke-3-clause-evaluates : goal.returns-in-Broke-3-clause-evaluates
 returns-in-Broke-3-clause-evaluates t c =
