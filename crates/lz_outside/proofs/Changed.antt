@@ -10,11 +10,10 @@ pub Changes-again : (a b c : Option FileMap) (name xs ys : List ℕ) →
 Changes-again None b c name xs ys h k = tt
 Changes-again (Some before) None c name xs ys h k = absurd h
 Changes-again (Some before) (Some mid) None name xs ys h k = absurd k
-Changes-again (Some before) (Some mid) (Some after) name xs ys h k =
-    (
-      k.0 ∙ ap (λ (x : Option (List ℕ)). Some (bytes_or_none x ++ ys)) h.0,
-      λ other d. k.1 other d ∙ h.1 other d
-    )
+Changes-again (Some before) (Some mid) (Some after) name xs ys h k = (
+  k.0 ∙ ap (λ (x : Option (List ℕ)). Some (bytes_or_none x ++ ys)) h.0,
+  λ other d. k.1 other d ∙ h.1 other d,
+)
 
 -- a front was written, and then a piece of the slice that is left
 pub Changes-piece : (a b c : Option FileMap) (name : List ℕ) (i n : ℕ) (xs : List ℕ) →

@@ -27,7 +27,7 @@ pub record HoldsFile (l : List File) (name : List ℕ) (used place : ℕ) (slots
   pub within : place < used
   pub holds : (d : Slot) → bytes_or_none (content_of l name) ≡ (get_or slots place d).bytes.content
   pub changes : (d slot : Slot) (bytes : List ℕ) → slot.name.content ≡ (get_or slots place d).name.content →
-    slot.bytes.content ≡ bytes → files_of used (set slots place slot) ≡ with_content l name bytes
+      slot.bytes.content ≡ bytes → files_of used (set slots place slot) ≡ with_content l name bytes
 
 file_at : (used place : ℕ) (slots : List Slot) (d : Slot) → place < used → used ≤ length slots →
     get_or (files_of used slots) place (file_of d) ≡ file_of (get_or slots place d)
@@ -46,15 +46,15 @@ found_slot l name used place slots v u h =
     record {
       within = w;
       holds = λ d.
-        ap bytes_or_none (s.holds (file_of d)) ∙ ap (λ (x : File). x.bytes) (at d);
+          ap bytes_or_none (s.holds (file_of d)) ∙ ap (λ (x : File). x.bytes) (at d);
       changes = λ d slot bytes e b.
-        let n : slot.name.content ≡ name = e ∙ sym (ap (λ (x : File). x.name) (at d)) ∙ s.named (file_of d) in
-        ap (λ (x : List Slot). map file_of x) (take-set-lt used slots place slot w)
-        ∙ map-set file_of (take used slots) place slot
-        ∙ ap (λ (x : List File). set x place (file_of slot)) v
-        ∙ ap (λ (x : List ℕ). set l place (record { name = x; bytes = slot.bytes.content })) n
-        ∙ ap (λ (x : List ℕ). set l place (record { name = name; bytes = x })) b
-        ∙ s.changes bytes;
+          let n : slot.name.content ≡ name = e ∙ sym (ap (λ (x : File). x.name) (at d)) ∙ s.named (file_of d) in
+          ap (λ (x : List Slot). map file_of x) (take-set-lt used slots place slot w)
+          ∙ map-set file_of (take used slots) place slot
+          ∙ ap (λ (x : List File). set x place (file_of slot)) v
+          ∙ ap (λ (x : List ℕ). set l place (record { name = x; bytes = slot.bytes.content })) n
+          ∙ ap (λ (x : List ℕ). set l place (record { name = name; bytes = x })) b
+          ∙ s.changes bytes;
     }
 
 -- a name that is found, or not
@@ -105,8 +105,8 @@ opens_new l name used slots slot v h n b k =
     ∙ length-files_of used slots (omega (arith, h)) in
     record {
       placed =
-        ap (λ (x : List File). place_from 0 x name) e ∙ place_from-new l 0 name [] k
-        ∙ ap (λ (x : ℕ). Some x) (omega (arith, w));
+          ap (λ (x : List File). place_from 0 x name) e ∙ place_from-new l 0 name [] k
+          ∙ ap (λ (x : ℕ). Some x) (omega (arith, w));
       opened = e ∙ sym (rw k (with_content-new l name [] k));
     }
 

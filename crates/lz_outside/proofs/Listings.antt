@@ -12,12 +12,12 @@ by_name : (x y : List ℕ) (P : Bool → Type 0) → (x ≡ y → P true) → (x
 by_name x y P h k =
     let d = bytes_eq-Decides x y in
     elim
-      (bytes_eq x y)
-      as
-      (λ b. (b ≡ true → x ≡ y) → (x ≡ y → b ≡ true) → P b)
-      [ true ↦ λ f g. h (f refl) | false ↦ λ f g. k (λ e. let q : false ≡ true = g e in cc) ]
-      d.0
-      d.1
+    (bytes_eq x y)
+    as
+    (λ b. (b ≡ true → x ≡ y) → (x ≡ y → b ≡ true) → P b)
+    [ true ↦ λ f g. h (f refl) | false ↦ λ f g. k (λ e. let q : false ≡ true = g e in cc) ]
+    d.0
+    d.1
 
 same_name : (x : List ℕ) → bytes_eq x x ≡ true
 same_name x = (bytes_eq-Decides x x).1 refl
@@ -31,15 +31,15 @@ pub content_of-with_content : (l : List File) (name bytes : List ℕ) →
 content_of-with_content [] name bytes = rw (same_name name) refl
 content_of-with_content (file ∷ rest) name bytes =
     by_name
-      file.name
-      name
-      (λ b.
-        content_of
-          (cond b (record { name = name; bytes = bytes } ∷ rest) (file ∷ with_content rest name bytes))
-          name
-        ≡ Some bytes)
-      (λ _. rw (same_name name) refl)
-      (λ d. rw (other_name file.name name d) (content_of-with_content rest name bytes))
+    file.name
+    name
+    (λ b.
+    content_of
+    (cond b (record { name = name; bytes = bytes } ∷ rest) (file ∷ with_content rest name bytes))
+    name
+    ≡ Some bytes)
+    (λ _. rw (same_name name) refl)
+    (λ d. rw (other_name file.name name d) (content_of-with_content rest name bytes))
 
 -- each other file holds what it held
 pub content_of-with_content_other : (l : List File) (name bytes other : List ℕ) → other ≢ name →
@@ -47,21 +47,21 @@ pub content_of-with_content_other : (l : List File) (name bytes other : List ℕ
 content_of-with_content_other [] name bytes other d = rw (other_name name other (λ e. d (sym e))) refl
 content_of-with_content_other (file ∷ rest) name bytes other d =
     by_name
-      file.name
-      name
-      (λ b.
-        content_of
-          (cond b (record { name = name; bytes = bytes } ∷ rest) (file ∷ with_content rest name bytes))
-          other
-        ≡ content_of (file ∷ rest) other)
-      (λ e.
-        let n : name ≢ other = λ h. d (sym h) in
-        let m : file.name ≢ other = λ h. d (sym h ∙ e) in
-        rw (other_name name other n, other_name file.name other m) refl)
-      (λ _.
-        ap
-          (λ (x : Option (List ℕ)). cond (bytes_eq file.name other) (Some file.bytes) x)
-          (content_of-with_content_other rest name bytes other d))
+    file.name
+    name
+    (λ b.
+    content_of
+    (cond b (record { name = name; bytes = bytes } ∷ rest) (file ∷ with_content rest name bytes))
+    other
+    ≡ content_of (file ∷ rest) other)
+    (λ e.
+    let n : name ≢ other = λ h. d (sym h) in
+    let m : file.name ≢ other = λ h. d (sym h ∙ e) in
+    rw (other_name name other n, other_name file.name other m) refl)
+    (λ _.
+    ap
+    (λ (x : Option (List ℕ)). cond (bytes_eq file.name other) (Some file.bytes) x)
+    (content_of-with_content_other rest name bytes other d))
 
 -- the last change counts
 pub with_content-twice : (l : List File) (name a b : List ℕ) →
@@ -69,13 +69,13 @@ pub with_content-twice : (l : List File) (name a b : List ℕ) →
 with_content-twice [] name a b = rw (same_name name) refl
 with_content-twice (file ∷ rest) name a b =
     by_name
-      file.name
-      name
-      (λ t.
-        with_content (cond t (record { name = name; bytes = a } ∷ rest) (file ∷ with_content rest name a)) name b
-        ≡ cond t (record { name = name; bytes = b } ∷ rest) (file ∷ with_content rest name b))
-      (λ _. rw (same_name name) refl)
-      (λ d. rw (other_name file.name name d) (ap (λ (x : List File). file ∷ x) (with_content-twice rest name a b)))
+    file.name
+    name
+    (λ t.
+    with_content (cond t (record { name = name; bytes = a } ∷ rest) (file ∷ with_content rest name a)) name b
+    ≡ cond t (record { name = name; bytes = b } ∷ rest) (file ∷ with_content rest name b))
+    (λ _. rw (same_name name) refl)
+    (λ d. rw (other_name file.name name d) (ap (λ (x : List File). file ∷ x) (with_content-twice rest name a b)))
 
 -- a new file stands at the end
 pub with_content-new : (l : List File) (name bytes : List ℕ) → content_of l name ≡ None →
@@ -83,15 +83,15 @@ pub with_content-new : (l : List File) (name bytes : List ℕ) → content_of l 
 with_content-new [] name bytes h = refl
 with_content-new (file ∷ rest) name bytes h =
     by_name
-      file.name
-      name
-      (λ b.
-        cond b (Some file.bytes) (content_of rest name) ≡ None →
-        cond b (record { name = name; bytes = bytes } ∷ rest) (file ∷ with_content rest name bytes)
-        ≡ file ∷ (rest ++ record { name = name; bytes = bytes } ∷ []))
-      (λ _ k. cc)
-      (λ _ k. ap (λ (x : List File). file ∷ x) (with_content-new rest name bytes k))
-      h
+    file.name
+    name
+    (λ b.
+    cond b (Some file.bytes) (content_of rest name) ≡ None →
+    cond b (record { name = name; bytes = bytes } ∷ rest) (file ∷ with_content rest name bytes)
+    ≡ file ∷ (rest ++ record { name = name; bytes = bytes } ∷ []))
+    (λ _ k. cc)
+    (λ _ k. ap (λ (x : List File). file ∷ x) (with_content-new rest name bytes k))
+    h
 
 -- what it holds already changes nothing
 pub with_content-same : (l : List File) (name bytes : List ℕ) → content_of l name ≡ Some bytes →
@@ -99,15 +99,15 @@ pub with_content-same : (l : List File) (name bytes : List ℕ) → content_of l
 with_content-same [] name bytes h = cc
 with_content-same (file ∷ rest) name bytes h =
     by_name
-      file.name
-      name
-      (λ b.
-        cond b (Some file.bytes) (content_of rest name) ≡ Some bytes →
-        cond b (record { name = name; bytes = bytes } ∷ rest) (file ∷ with_content rest name bytes)
-        ≡ file ∷ rest)
-      (λ e k. let q : file.bytes ≡ bytes = cc in rw (← e, ← q) refl)
-      (λ _ k. ap (λ (x : List File). file ∷ x) (with_content-same rest name bytes k))
-      h
+    file.name
+    name
+    (λ b.
+    cond b (Some file.bytes) (content_of rest name) ≡ Some bytes →
+    cond b (record { name = name; bytes = bytes } ∷ rest) (file ∷ with_content rest name bytes)
+    ≡ file ∷ rest)
+    (λ e k. let q : file.bytes ≡ bytes = cc in rw (← e, ← q) refl)
+    (λ _ k. ap (λ (x : List File). file ∷ x) (with_content-same rest name bytes k))
+    h
 
 -- a new file is found at the end
 pub place_from-new : (l : List File) (i : ℕ) (name bytes : List ℕ) → content_of l name ≡ None →
@@ -115,29 +115,29 @@ pub place_from-new : (l : List File) (i : ℕ) (name bytes : List ℕ) → conte
 place_from-new [] i name bytes h = rw (same_name name) (ap (λ (x : ℕ). Some x) (omega arith))
 place_from-new (file ∷ rest) i name bytes h =
     by_name
-      file.name
-      name
-      (λ b.
-        cond b (Some file.bytes) (content_of rest name) ≡ None →
-        cond b (Some i) (place_from (i + 1) (rest ++ record { name = name; bytes = bytes } ∷ []) name)
-        ≡ Some (i + length (file ∷ rest)))
-      (λ _ k. cc)
-      (λ _ k. place_from-new rest (i + 1) name bytes k ∙ ap (λ (x : ℕ). Some x) (omega arith))
-      h
+    file.name
+    name
+    (λ b.
+    cond b (Some file.bytes) (content_of rest name) ≡ None →
+    cond b (Some i) (place_from (i + 1) (rest ++ record { name = name; bytes = bytes } ∷ []) name)
+    ≡ Some (i + length (file ∷ rest)))
+    (λ _ k. cc)
+    (λ _ k. place_from-new rest (i + 1) name bytes k ∙ ap (λ (x : ℕ). Some x) (omega arith))
+    h
 
 -- no place, no content
 pub content_of-none : (l : List File) (i : ℕ) (name : List ℕ) → place_from i l name ≡ None → content_of l name ≡ None
 content_of-none [] i name h = refl
 content_of-none (file ∷ rest) i name h =
     by_name
-      file.name
-      name
-      (λ b.
-        cond b (Some i) (place_from (i + 1) rest name) ≡ None →
-        cond b (Some file.bytes) (content_of rest name) ≡ None)
-      (λ _ k. cc)
-      (λ _ k. content_of-none rest (i + 1) name k)
-      h
+    file.name
+    name
+    (λ b.
+    cond b (Some i) (place_from (i + 1) rest name) ≡ None →
+    cond b (Some file.bytes) (content_of rest name) ≡ None)
+    (λ _ k. cc)
+    (λ _ k. content_of-none rest (i + 1) name k)
+    h
 
 -- the file of the name stands at this index
 pub record StandsAt (l : List File) (name : List ℕ) (q : ℕ) : Type 0 where
@@ -172,14 +172,14 @@ found_from : (l : List File) (i p : ℕ) (name : List ℕ) → place_from i l na
 found_from [] i p name h = cc
 found_from (file ∷ rest) i p name h =
     by_name
-      file.name
-      name
-      (λ b. cond b (Some i) (place_from (i + 1) rest name) ≡ Some p → (q : ℕ) × (i + q ≡ p) × StandsAt (file ∷ rest) name q)
-      (λ e k. let q : i ≡ p = cc in (0, omega arith, StandsAt-first file rest name e))
-      (λ d k.
-        let r : (q : ℕ) × (i + 1 + q ≡ p) × StandsAt rest name q = found_from rest (i + 1) p name k in
-        (suc r.0, omega (arith, r.1), StandsAt-later file rest name r.0 d r.2))
-      h
+    file.name
+    name
+    (λ b. cond b (Some i) (place_from (i + 1) rest name) ≡ Some p → (q : ℕ) × (i + q ≡ p) × StandsAt (file ∷ rest) name q)
+    (λ e k. let q : i ≡ p = cc in (0, omega arith, StandsAt-first file rest name e))
+    (λ d k.
+    let r : (q : ℕ) × (i + 1 + q ≡ p) × StandsAt rest name q = found_from rest (i + 1) p name k in
+    (suc r.0, omega (arith, r.1), StandsAt-later file rest name r.0 d r.2))
+    h
 
 -- the place that is found is the file's index
 pub found : (l : List File) (p : ℕ) (name : List ℕ) → place_from 0 l name ≡ Some p → StandsAt l name p
@@ -193,8 +193,7 @@ pub Changes-with_content : (l after : List File) (name bytes : List ℕ) → aft
     Changes (Some (content_of l)) (Some (content_of after)) name bytes
 Changes-with_content l after name bytes e =
     let P : List File → Type 0 = λ x. Changes (Some (content_of l)) (Some (content_of x)) name bytes in
-    subst P (sym e)
-    (
+    subst P (sym e) (
       content_of-with_content l name bytes,
-      λ other d. content_of-with_content_other l name bytes other d
+      λ other d. content_of-with_content_other l name bytes other d,
     )

@@ -24,9 +24,9 @@ abbrev pub with_content : List File → List ℕ → List ℕ → List File
 with_content [] name bytes = record { name = name; bytes = bytes } ∷ []
 with_content (file ∷ rest) name bytes =
     cond
-      (bytes_eq file.name name)
-      (record { name = name; bytes = bytes } ∷ rest)
-      (file ∷ with_content rest name bytes)
+    (bytes_eq file.name name)
+    (record { name = name; bytes = bytes } ∷ rest)
+    (file ∷ with_content rest name bytes)
 
 -- no two files have one name
 abbrev pub HaveOwnNames : List File → Type 0

@@ -45,6 +45,13 @@ impl Buffer {
         &self.bytes[..self.filled]
     }
 
+    /// How many bytes still fit.
+    pub fn left(&self) -> usize
+        ensures { result + length self.now.content ≡ self.now.room }
+    {
+        self.bytes.len() - self.filled
+    }
+
     /// Makes it empty.
     pub fn clear(&mut self)
         ensures { self.new ≡ record { content = []; room = self.old.room } }

@@ -70,8 +70,15 @@ impl MemoryFolder {
         fails: Calls,
     ) -> Result<MemoryFolder, Memory>
         requires { HaveOwnNames files }
-        ensures { IfOk result (λ folder. folder ≡ record { listing = files; spare = spare; room = room; fails = fails;
-            calls = 0; read_faults = 0; write_faults = 0 }) }
+        ensures { IfOk result (λ folder. folder ≡ record {
+          listing = files;
+          spare = spare;
+          room = room;
+          fails = fails;
+          calls = 0;
+          read_faults = 0;
+          write_faults = 0;
+        }) }
     {
         let room = room as usize;
         let mut slots = slots_of(alloc, files.items(), room)?;

@@ -34,9 +34,9 @@ pub fn write_file<F: Folder>(folder: &mut F, name: &str, bytes: &[u8]) -> Result
     ensures same_reads { F.read_faults folder.new ≡ F.read_faults folder.old }
 {
     folder.begin(name)?;
-    let mut done = 0;
-    while done < bytes.len() {
-        done += folder.append_piece(name, &bytes[done..])?;
+    let mut added = 0;
+    while added < bytes.len() {
+        added += folder.append_piece(name, &bytes[added..])?;
     }
     Ok(())
 }

@@ -16,9 +16,9 @@ pub loop-preserved : goal.loop-preserved
 loop-preserved c = record {
   count = omega (arith, ap (λ (x : List Slot). length x) c.in_ok-push.ensures.items, length-append {A = Slot});
   front =
-    let k : length c.args.slots.now.items ≤ length c.loop.slots.items = omega arith in
-    ap (λ (x : List Slot). take (length c.args.slots.now.items) x) c.in_ok-push.ensures.items
-    ∙ take-append-le _ _ _ k ∙ c.loop.invariant.front;
+      let k : length c.args.slots.now.items ≤ length c.loop.slots.items = omega arith in
+      ap (λ (x : List Slot). take (length c.args.slots.now.items) x) c.in_ok-push.ensures.items
+      ∙ take-append-le _ _ _ k ∙ c.loop.invariant.front;
   roomy = rw c.in_ok-push.ensures.items (All-push (IsRoomy c.args.room) _ _ c.loop.invariant.roomy c.in_ok-slot.ensures.roomy);
 }
 

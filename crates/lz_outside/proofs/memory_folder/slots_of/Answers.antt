@@ -7,8 +7,8 @@ use Rattle.lz_outside.proofs.memory_folder.slots_of.Goals as goal
 pub loop-file-preserved : goal.loop-file-preserved
 loop-file-preserved c = record {
   files =
-    ap (λ (x : List Slot). map file_of x) c.in_ok-push.ensures.items
-    ∙ files_of-more
+      ap (λ (x : List Slot). map file_of x) c.in_ok-push.ensures.items
+      ∙ files_of-more
       _
       _
       _

@@ -18,9 +18,9 @@ add-requires c =
     let w : c.in_ok-place.place < length c.self.inside.slots.items = omega (arith, s.within, c.self.invariant.0) in
     let r : c.self.inside.room ≤ c.index_mut-slot.result.now.bytes.room =
     subst
-      (λ (x : Slot). c.self.inside.room ≤ x.bytes.room)
-      (sym c.index_mut-slot.ensures.value)
-      (c.self.invariant.1 c.in_ok-place.place c.index_mut-slot.result.now w).bytes_fit in
+    (λ (x : Slot). c.self.inside.room ≤ x.bytes.room)
+    (sym c.index_mut-slot.ensures.value)
+    (c.self.invariant.1 c.in_ok-place.place c.index_mut-slot.result.now w).bytes_fit in
     let v = ap (λ (x : List ℕ). length x) c.content.ensures.value in
     omega (
       arith,

@@ -18,14 +18,12 @@ returns-then-is_some-clause-none c =
 pub returns-then-self-len-clause-none : goal.returns-then-self-len-clause-none
 returns-then-self-len-clause-none c =
     let h = place_in _ _ _ _ _ _ c.find_place-found.ensures c.deref.ensures.value (ap (λ (x : FolderState). x.listing) c.self.view_is) in
-    let v = ap (λ (x : FolderState). x.spare) c.self.view_is in
-    (
-      λ _.
-        (
-          missing _ c.args.self.now.listing c.args.name.now h (sym c.if-is_some.ensures),
-          elim c.then-self-len.either [ inl e ↦ inl (omega (arith, v, e, c.len.ensures)) | inr w ↦ inr w.1 ]
-        ),
-      λ _. refl
+    let v = ap (λ (x : FolderState). x.spare) c.self.view_is in (
+      λ _. (
+        missing _ c.args.self.now.listing c.args.name.now h (sym c.if-is_some.ensures),
+        elim c.then-self-len.either [ inl e ↦ inl (omega (arith, v, e, c.len.ensures)) | inr w ↦ inr w.1 ],
+      ),
+      λ _. refl,
     )
 
 opens : (c : goal.After-self-2-1) →
