@@ -1,2 +1,5 @@
+pub mod Changed
 pub mod Gained
+pub mod InSlots
+pub mod Listings
 pub mod Pieces

@@ -1,5 +1,5 @@
 -- What the files of a folder hold, and what a read of a piece gives.
-use Rattle.std.specs.Prelude.{◌≡◌, ℕ, ◌+◌, ◌<◌, ◌≤◌, ◌⊎◌, List, ◌++◌, length, take, drop, Option, Some, None, ⊤}
+use Rattle.std.specs.Prelude.{◌≡◌, ◌≢◌, ℕ, ◌+◌, ◌<◌, ◌≤◌, ◌⊎◌, List, [], ◌++◌, length, take, drop, Option, Some, None, ⊤}
 
 -- what the file of each name holds, None where no file has the name
 abbrev pub FileMap : Type 0
@@ -46,3 +46,30 @@ abbrev pub BeginsWith : Option FileMap → List ℕ → List ℕ → Type 0
 BeginsWith None name bytes = ⊤
 BeginsWith (Some told) name bytes =
     (content : List ℕ) → told name ≡ Some content → bytes ≡ take (length bytes) content
+
+-- the bytes of a file, none where there is no file
+abbrev pub bytes_or_none : Option (List ℕ) → List ℕ
+bytes_or_none None = []
+bytes_or_none (Some bytes) = bytes
+
+-- what the told file of the name holds, and nothing where there is none
+abbrev pub bytes_of : Option FileMap → List ℕ → List ℕ
+bytes_of None name = []
+bytes_of (Some told) name = bytes_or_none (told name)
+
+-- each file but that of the name is as before
+abbrev pub KeepsOtherFiles : FileMap → FileMap → List ℕ → Type 0
+KeepsOtherFiles before after name = (other : List ℕ) → other ≢ name → after other ≡ before other
+
+-- where the folder tells its files, it goes on telling them, and each but that of the name is as before
+abbrev pub KeepsOthers : Option FileMap → Option FileMap → List ℕ → Type 0
+KeepsOthers None after name = ⊤
+KeepsOthers (Some before) None name = ⊥
+KeepsOthers (Some before) (Some after) name = KeepsOtherFiles before after name
+
+-- where the folder tells its files, it goes on telling them, the file of the name holds these bytes, and
+-- each other one is as before
+abbrev pub Changes : Option FileMap → Option FileMap → List ℕ → List ℕ → Type 0
+Changes None after name bytes = ⊤
+Changes (Some before) None name bytes = ⊥
+Changes (Some before) (Some after) name bytes = (after name ≡ Some bytes) × KeepsOtherFiles before after name

@@ -3,6 +3,7 @@
 //! write a whole report through them.
 #![tactic(auto)]
 
+mod buffer;
 mod calls;
 mod folder;
 mod memory_folder;
@@ -11,6 +12,7 @@ mod reading;
 mod real_folder;
 mod real_sink;
 mod sink;
+mod slot;
 mod writing;
 
 pub use calls::Calls;
@@ -21,7 +23,7 @@ pub use reading::{ReadError, read_all};
 pub use real_folder::RealFolder;
 pub use real_sink::RealSink;
 pub use sink::Sink;
-pub use writing::write_all;
+pub use writing::{write_all, write_file};
 
 #[cfg(test)]
 mod tests;

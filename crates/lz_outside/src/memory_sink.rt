@@ -3,6 +3,7 @@ ghost use Rattle.lz_outside.specs.Faults.{Rose};
 ghost use Rattle.lz_outside.specs.Written.{Gains};
 ghost use Rattle.lz_outside.specs.MemorySink.{SinkState};
 
+use crate::buffer::Buffer;
 use crate::calls::{Calls, is_listed, raised};
 use crate::folder::Failed;
 use crate::sink::Sink;
@@ -15,29 +16,24 @@ use std::marker::Model;
 /// that fail, how many calls were made, and how many failed.
 #[derive(Debug, Drop)]
 pub struct MemorySink {
-    // The bytes written, and zeros up to the room.
-    buffer: Vec<u8>,
-    filled: usize,
+    buffer: Buffer,
     fails: Calls,
     calls: u64,
     faults: u64,
 }
 
 impl Model for MemorySink {
-    ghost use Rattle.std.specs.Prelude.{◌≤◌, length, take};
     ghost use Rattle.lz_outside.specs.MemorySink.{SinkState};
 
     ghost Value = { SinkState };
 
     ghost view = { λ sink. record {
-      written = take sink.filled sink.buffer.items;
-      room = length sink.buffer.items;
+      written = sink.buffer.content;
+      room = sink.buffer.room;
       fails = sink.fails;
       calls = sink.calls;
       faults = sink.faults;
     } };
-
-    ghost invariant = { λ sink. sink.filled ≤ length sink.buffer.items };
 }
 
 impl MemorySink {
@@ -46,10 +42,9 @@ impl MemorySink {
     pub fn new(alloc: Global, room: u64, fails: Calls) -> Result<MemorySink, Memory>
         ensures { IfOk result (λ sink. sink ≡ record { written = []; room = room; fails = fails; calls = 0; faults = 0 }) }
     {
-        let buffer = vec![in alloc; 0u8; room as usize]?;
+        let buffer = Buffer::new(alloc, room as usize)?;
         Ok(MemorySink {
             buffer,
-            filled: 0,
             fails,
             calls: 0,
             faults: 0,
@@ -60,7 +55,7 @@ impl MemorySink {
     pub fn written(&self) -> &[u8]
         ensures { result.now ≡ self.now.written }
     {
-        &self.buffer[..self.filled]
+        self.buffer.content()
     }
 }
 
@@ -90,15 +85,13 @@ impl Sink for MemorySink {
     {
         let listed = is_listed(&self.fails, self.calls);
         self.calls = raised(self.calls);
-        let room = self.buffer.len() - self.filled;
-        if listed || room == 0 && !piece.is_empty() {
+        let left = self.buffer.left();
+        if listed || left == 0 && !piece.is_empty() {
             self.faults = raised(self.faults);
             return Err(Failed);
         }
-        let count = room.min(piece.len());
-        let end = self.filled + count;
-        self.buffer[self.filled..end].copy_from_slice(&piece[..count]);
-        self.filled = end;
+        let count = left.min(piece.len());
+        self.buffer.add(&piece[..count]);
         Ok(count)
     }
 }

@@ -51,6 +51,7 @@ pub fn read_all<F: Folder>(
 
     ensures keeps_files { F.files folder.new ≡ F.files folder.old }
     ensures counts { F.read_faults folder.old ≤ F.read_faults folder.new }
+    ensures same_writes { F.write_faults folder.new ≡ F.write_faults folder.old }
 {
     let mut bytes = Bytes::new(alloc);
     let mut buffer = [0u8; PIECE_SIZE];
@@ -81,6 +82,7 @@ fn add_piece<F: Folder>(
     ensures missing { Lacks (F.files folder.old) name.now → result ≡ Err ReadError.Fault }
     ensures keeps_files { F.files folder.new ≡ F.files folder.old }
     ensures counts { F.read_faults folder.old ≤ F.read_faults folder.new }
+    ensures same_writes { F.write_faults folder.new ≡ F.write_faults folder.old }
 {
     let place = bytes.items().len() as u64;
     let count = match folder.read_piece(name, place, buffer) {

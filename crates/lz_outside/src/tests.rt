@@ -1,4 +1,4 @@
-ghost use Rattle.std.specs.Prelude.{◌≡◌, ℕ, Option, None, List};
+ghost use Rattle.std.specs.Prelude.{◌≡◌, ◌≤◌, ℕ, Option, None, List, length};
 
 use super::*;
 use lz_base::{Bytes, Memory, Name};
@@ -16,15 +16,28 @@ fn calls_of(alloc: Global, call: u64) -> Result<Calls, Memory> {
     Ok(calls)
 }
 
-// A folder with one file, which fails at one call.
-fn folder_of(alloc: Global, name: &str, text: &[u8], call: u64) -> Result<MemoryFolder, Memory> {
+// A file.
+fn file_of(alloc: Global, name: &str, text: &[u8]) -> Result<File, Memory> {
     let name = Name::new(alloc, name)?;
     let mut bytes = Bytes::new(alloc);
     bytes.append(text)?;
+    Ok(File { name, bytes })
+}
+
+// A folder with one file, and with room for further ones and for bytes in each, which fails at one
+// call.
+fn folder_of(
+    alloc: Global,
+    name: &str,
+    text: &[u8],
+    spare: u32,
+    room: u64,
+    call: u64,
+) -> Result<MemoryFolder, Memory> {
     let mut files = Files::new(alloc);
-    files.push(File { name, bytes })?;
+    files.push(file_of(alloc, name, text)?)?;
     let calls = calls_of(alloc, call)?;
-    Ok(MemoryFolder::new(files, calls))
+    MemoryFolder::new(alloc, files, spare, room, calls)
 }
 
 /// Whole files, a missing one, one that is longer than the limit, and a failing call.
@@ -39,7 +52,7 @@ fn reads_from_memory(rt: HostRuntime) -> Result<(), Fail> {
         ("a.c", 100, 1, Some(ReadError::Fault)),
     ];
     for (name, limit, call, want) in cases {
-        let mut folder = folder_of(rt.alloc(), "a.c", b"int main;", call)
+        let mut folder = folder_of(rt.alloc(), "a.c", b"int main;", 0, 0, call)
             .ok()
             .ok_or("memory")?;
         assert_eq!(rt; folder.file("a.c"), Some(b"int main;".as_slice()));
@@ -54,19 +67,39 @@ fn reads_from_memory(rt: HostRuntime) -> Result<(), Fail> {
     Ok(())
 }
 
-// Gives one byte at a time, and fails at one call.
+// Gives and takes one byte at a time, and fails at one call.
 #[derive(Drop)]
-struct Dripping<'a> {
-    content: &'a [u8],
+struct Dripping {
+    content: [u8; 8],
+    length: usize,
     call: u64,
     calls: u64,
     read_faults: u64,
+    write_faults: u64,
 }
 
-impl Folder for Dripping<'_> {
+// A dripping folder that holds some text of at most 8 bytes.
+fn make_dripping(text: &[u8], call: u64) -> Dripping
+    requires { length text.now ≤ 8 }
+{
+    let mut content = [0u8; 8];
+    content[..text.len()].copy_from_slice(text);
+    Dripping {
+        content,
+        length: text.len(),
+        call,
+        calls: 0,
+        read_faults: 0,
+        write_faults: 0,
+    }
+}
+
+impl Folder for Dripping {
     ghost files = { λ _. None };
 
     ghost read_faults = { λ folder. folder.read_faults };
+
+    ghost write_faults = { λ folder. folder.write_faults };
 
     fn read_piece(&mut self, _name: &str, place: u64, into: &mut [u8]) -> Result<usize, Failed> {
         let fails = self.calls == self.call;
@@ -76,11 +109,37 @@ impl Folder for Dripping<'_> {
             return Err(Failed);
         }
         let place = place as usize;
-        if place < self.content.len() && !into.is_empty() {
+        if place < self.length && place < 8 && !into.is_empty() {
             into[0] = self.content[place];
             return Ok(1);
         }
         Ok(0)
+    }
+
+    fn begin(&mut self, _name: &str) -> Result<(), Failed> {
+        let fails = self.calls == self.call;
+        self.calls = self.calls.saturating_add(1);
+        if fails {
+            self.write_faults = self.write_faults.saturating_add(1);
+            return Err(Failed);
+        }
+        self.length = 0;
+        Ok(())
+    }
+
+    fn append_piece(&mut self, _name: &str, piece: &[u8]) -> Result<usize, Failed> {
+        let fails = self.calls == self.call;
+        self.calls = self.calls.saturating_add(1);
+        if piece.is_empty() {
+            return Ok(0);
+        }
+        if fails || self.length >= 8 {
+            self.write_faults = self.write_faults.saturating_add(1);
+            return Err(Failed);
+        }
+        self.content[self.length] = piece[0];
+        self.length += 1;
+        Ok(1)
     }
 }
 
@@ -93,12 +152,7 @@ fn reads_byte_by_byte(rt: HostRuntime) -> Result<(), Fail> {
         (3, 5, Some(ReadError::Fault)),
     ];
     for (call, limit, want) in cases {
-        let mut folder = Dripping {
-            content: b"drops",
-            call,
-            calls: 0,
-            read_faults: 0,
-        };
+        let mut folder = make_dripping(b"drops", call);
         match read_all(rt.alloc(), &mut folder, "a.c", limit) {
             Ok(bytes) => {
                 assert_eq!(rt; bytes.items(), b"drops".as_slice());
@@ -106,6 +160,74 @@ fn reads_byte_by_byte(rt: HostRuntime) -> Result<(), Fail> {
             }
             Err(error) => assert_eq!(rt; Some(error), want, "{call} {limit}"),
         }
+    }
+    Ok(())
+}
+
+/// Short writes make the whole file, over what it held, and a failure in mid-stream is told.
+#[test]
+fn writes_byte_by_byte(rt: HostRuntime) -> Result<(), Fail> {
+    for (call, want) in [(NEVER, true), (0, false), (3, false)] {
+        let mut folder = make_dripping(b"longer", call);
+        let written = write_file(&mut folder, "a.c", b"drops");
+        assert_eq!(rt; written.is_ok(), want, "{call}");
+        if written.is_ok() {
+            let bytes = read_all(rt.alloc(), &mut folder, "a.c", 9)
+                .ok()
+                .ok_or("read")?;
+            assert_eq!(rt; bytes.items(), b"drops".as_slice());
+        }
+    }
+    Ok(())
+}
+
+/// A failure at each call in turn, one to begin and one to append: the write fails exactly there, and
+/// another file stays. Room that runs out in the middle, and no further file left.
+#[test]
+fn writes_to_memory_or_fails(rt: HostRuntime) -> Result<(), Fail> {
+    let cases = [
+        (1, 6, NEVER, true),
+        (1, 6, 0, false),
+        (1, 6, 1, false),
+        (1, 6, 2, true),
+        (1, 5, NEVER, false),
+        (0, 6, NEVER, false),
+    ];
+    for (spare, room, call, want) in cases {
+        let mut folder = folder_of(rt.alloc(), "a.c", b"int main;", spare, room, call)
+            .ok()
+            .ok_or("memory")?;
+        let written = write_file(&mut folder, "b.c", b"int x;");
+        assert_eq!(rt; written.is_ok(), want, "{spare} {room} {call}");
+        assert_eq!(rt; folder.file("a.c"), Some(b"int main;".as_slice()));
+        if want {
+            assert_eq!(rt; folder.file("b.c"), Some(b"int x;".as_slice()));
+            let read = read_all(rt.alloc(), &mut folder, "b.c", 9);
+            assert_eq!(rt; read.is_ok(), call == NEVER);
+        } else if room == 5 {
+            assert_eq!(rt; folder.file("b.c"), Some(b"int x".as_slice()));
+        }
+    }
+    Ok(())
+}
+
+/// A further file's name has at most 255 bytes, a file is written over, and one that was given may have
+/// more bytes than the room.
+#[test]
+fn keeps_its_room(rt: HostRuntime) -> Result<(), Fail> {
+    let long = [b'n'; 256];
+    for (count, want) in [(255, true), (256, false)] {
+        let name = str::from_utf8(&long[..count]).ok().ok_or("text")?;
+        let mut folder = folder_of(rt.alloc(), "a.c", b"int main;", 1, 4, NEVER)
+            .ok()
+            .ok_or("memory")?;
+        assert_eq!(rt; folder.append_piece(name, b"int").is_ok(), want, "{count}");
+        assert_eq!(rt; folder.file(name).is_some(), want, "{count}");
+        assert_eq!(rt; folder.append_piece("a.c", b"x"), Err(Failed));
+        assert_eq!(rt; folder.append_piece("a.c", b""), Ok(0));
+        assert_eq!(rt; folder.begin("a.c"), Ok(()));
+        assert_eq!(rt; folder.append_piece("a.c", b"int x;"), Ok(4));
+        assert_eq!(rt; folder.file("a.c"), Some(b"int ".as_slice()));
     }
     Ok(())
 }
@@ -130,7 +252,7 @@ fn writes_to_memory(rt: HostRuntime) -> Result<(), Fail> {
     Ok(())
 }
 
-/// A file of the system, a missing one, and the standard output.
+/// A file of the system that is read and written over, a missing one, and the standard output.
 #[test]
 fn reaches_the_system(rt: HostRuntime) -> Result<(), Fail> {
     fs::write(&rt, "piece.txt", "some text")
@@ -148,6 +270,13 @@ fn reaches_the_system(rt: HostRuntime) -> Result<(), Fail> {
         folder.read_piece("no such file.txt", 0, &mut piece),
         Err(Failed)
     );
+    assert_eq!(rt; write_file(&mut folder, "piece.txt", b"short"), Ok(()));
+    assert_eq!(rt; folder.append_piece("piece.txt", b"er").is_ok(), true);
+    let bytes = read_all(rt.alloc(), &mut folder, "piece.txt", 9)
+        .ok()
+        .ok_or("read")?;
+    assert_eq!(rt; bytes.items(), b"shorter".as_slice());
+    assert_eq!(rt; folder.begin("no such folder/a.c"), Err(Failed));
     fs::remove_file(&rt, "piece.txt").ok().ok_or("remove")?;
     let mut sink = RealSink::new(&rt);
     assert_eq!(rt; write_all(&mut sink, b"written\n"), Ok(()));

@@ -7,6 +7,7 @@ invariant-loop-bytes g l = record {
   in_range : length l.bytes ≤ l.limit;
   begins : BeginsWith (g.F.Folder.files l.initial.folder) l.name l.bytes;
   same_files : g.F.Folder.files l.folder ≡ g.F.Folder.files l.initial.folder;
+  same_writes : g.F.Folder.write_faults l.folder ≡ g.F.Folder.write_faults l.initial.folder;
   calm : g.F.Folder.read_faults l.folder ≡ g.F.Folder.read_faults l.initial.folder;
 }
 
