@@ -66,6 +66,7 @@ pub fn run<F: Folder, O: Sink>(alloc: Global, words: &Words, folder: &mut F, out
     ensures not_read { ((name : List ℕ) → IsFileName words.now name → ⊥) → folder.new ≡ folder.old }
     ensures keeps_files { F.files folder.new ≡ F.files folder.old }
     ensures read_faults { F.read_faults folder.old ≤ F.read_faults folder.new }
+    ensures same_writes { F.write_faults folder.new ≡ F.write_faults folder.old }
     ensures faults { O.faults out.old ≤ O.faults out.new }
 {
     let conclusion = match conclude(alloc, words, folder) {
@@ -84,6 +85,7 @@ fn conclude<F: Folder>(alloc: Global, words: &Words, folder: &mut F) -> Result<C
     ensures not_read { ((name : List ℕ) → IsFileName words.now name → ⊥) → folder.new ≡ folder.old }
     ensures keeps_files { F.files folder.new ≡ F.files folder.old }
     ensures read_faults { F.read_faults folder.old ≤ F.read_faults folder.new }
+    ensures same_writes { F.write_faults folder.new ≡ F.write_faults folder.old }
 {
     match file_name(words) {
         Some(name) => conclude_file(alloc, name, folder),
@@ -130,6 +132,7 @@ fn conclude_file<F: Folder>(
     ensures printable { IfOk result (λ conclusion. IsPrintable conclusion.ending) }
     ensures keeps_files { F.files folder.new ≡ F.files folder.old }
     ensures read_faults { F.read_faults folder.old ≤ F.read_faults folder.new }
+    ensures same_writes { F.write_faults folder.new ≡ F.write_faults folder.old }
 {
     match read_all(alloc, folder, name.text(), FILE_LIMIT) {
         Ok(bytes) => judge(alloc, bytes.items()),

@@ -41,7 +41,7 @@ fn call_with(
         name: Name::new(alloc, "a.c")?,
         bytes,
     })?;
-    let mut folder = MemoryFolder::new(files, fails);
+    let mut folder = MemoryFolder::new(alloc, files, 0, 0, fails)?;
     let mut sink = MemorySink::new(alloc, room, Calls::new(alloc))?;
     let ended = run(alloc, &given, &mut folder, &mut sink);
     let mut text = Bytes::new(alloc);
