@@ -5,3 +5,4 @@ pub mod Executions
 pub mod Decisions
 pub mod Evidences
 pub mod Verdicts
+pub mod Exact

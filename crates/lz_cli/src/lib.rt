@@ -5,6 +5,7 @@ mod command;
 mod decide;
 mod ending;
 mod evidence;
+mod exactness;
 mod refutation;
 mod report;
 #[cfg(test)]
@@ -13,3 +14,4 @@ mod tests;
 pub use command::{Ended, Words, end_out_of_memory, run};
 pub use ending::Ending;
 pub use evidence::Evidence;
+pub use exactness::endings_are_exact;

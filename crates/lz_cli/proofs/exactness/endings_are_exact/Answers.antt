@@ -1,0 +1,17 @@
+use Rattle.lz_cli.proofs.Exact.{decided_ends, not_built_ends, too_long_ends, missing_ends, no_file_ends}
+use Rattle.lz_cli.proofs.exactness.endings_are_exact.Goals as goal
+
+pub returns-clause-decided : goal.returns-clause-decided
+returns-clause-decided c = decided_ends c.one_program.ensures
+
+pub returns-clause-not_built : goal.returns-clause-not_built
+returns-clause-not_built c = not_built_ends
+
+pub returns-clause-too_long : goal.returns-clause-too_long
+returns-clause-too_long c = too_long_ends
+
+pub returns-clause-missing : goal.returns-clause-missing
+returns-clause-missing c = missing_ends
+
+pub returns-clause-no_file : goal.returns-clause-no_file
+returns-clause-no_file c = no_file_ends
