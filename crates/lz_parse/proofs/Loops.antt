@@ -232,6 +232,11 @@ pub adding_start : (cells : List (Option ℕ)) (tokens : List Token) (line : ℕ
 unfolding sum_at
 adding_start cells tokens line first rest e = record { same = sym (bind_at (operand_at cells tokens) _ (line, first, rest) e) }
 
+pub sum_fails : (error : ParseError) (cells : List (Option ℕ)) (tokens : List Token) → Fails error (operand_at cells tokens) → Fails error (sum_at cells tokens)
+unfolding sum_at
+sum_fails errors.Memory cells tokens h = tt
+sum_fails errors.NotTheForm cells tokens h = rw h refl
+
 pub adding_more : (n m : ℕ) (cells : List (Option ℕ)) (tokens : List Token) (line : ℕ) (so_far : Expression) (rest after : List Token) (next : Expression) (left : List Token)
     → IsAdding n cells tokens line so_far rest → n ≡ suc m → mark_at Plus rest ≡ Some after → next_at cells line so_far after ≡ Some (next, left) → IsAdding m cells tokens line next left
 adding_more n m cells tokens line so_far rest after next left a is e h =
