@@ -2,7 +2,7 @@
 use Rattle.std.proofs.Common.{◌≡◌, ℕ, zero, suc, ◌<◌, true, false, List, [], ◌∷◌, length, Option, Some, None, refl, sym, ap, subst, ◌∙◌, arith}
 use Rattle.std.specs.Prelude.{codes}
 use Rattle.std.specs.Fmt.{decimal}
-use Rattle.std.proofs.lemmas.Bool.{cond-true, eqb-true, eq-eqb}
+use Rattle.std.proofs.lemmas.Bool.{cond-true, false_from_ne_true, eqb-true, eq-eqb}
 use Rattle.std.proofs.lemmas.Fmt.{decimal_injective}
 use Rattle.lz_tree.specs.declared.token.Token.{Token}
 use Rattle.lz_tree.specs.declared.token.TokenKind.{TokenKind}
@@ -82,6 +82,14 @@ piece_mark names wanted (kinds.Name n) h = absurd cc
 piece_mark names wanted (kinds.Constant v) h = absurd cc
 piece_mark names wanted (kinds.Keyword k) h = absurd cc
 piece_mark names wanted (kinds.Punct m) h = let same : m ≡ wanted = cc in eq-eqb (punct_number m) (punct_number wanted) (ap punct_number same)
+
+-- another mark
+pub other_mark : (names : List (List ℕ)) (wanted m : Punct) (kind : TokenKind) → kind_piece names kind ≡ mark m → (wanted ≡ m → ⊥) → is_mark wanted kind ≡ false
+other_mark names wanted m kind e other =
+    false_from_ne_true (is_mark wanted kind) (λ is.
+    let both : mark wanted ≡ mark m = sym (mark_piece names wanted kind is) ∙ e in
+    let same : wanted ≡ m = cc in
+    other same)
 
 pub mark_there : (names : List (List ℕ)) (wanted : Punct) (tokens rest : List Token) → AreTokens names tokens → mark_at wanted tokens ≡ Some rest → (line : ℕ) × IsTaken names tokens (lexeme line (mark wanted)) rest
 unfolding mark_at

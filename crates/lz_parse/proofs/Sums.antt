@@ -1,7 +1,7 @@
 -- Sums: what is read is a sum of the form, and a sum of the form is read.
 use Rattle.std.proofs.Common.{◌≡◌, ℕ, zero, suc, ◌≤◌, true, false, List, [], ◌∷◌, length, Option, Some, None, refl, sym, ap, subst, ◌∙◌, arith, inl, inr}
 use Rattle.std.specs.List.{AllByRecursion}
-use Rattle.std.proofs.lemmas.Bool.{cond-false, false_from_ne_true}
+use Rattle.std.proofs.lemmas.Bool.{cond-false}
 use Rattle.lz_base.specs.declared.operator.Binary.TheVariants.{Add}
 use Rattle.lz_base.specs.declared.word.IntType.TheVariants.{Int}
 use Rattle.lz_tree.specs.declared.token.Token.{Token}
@@ -14,7 +14,7 @@ use Rattle.lz_parse.specs.Reading.{◌>>=◌}
 use Rattle.lz_parse.specs.Lexing.{kind_piece, lexemes_of, AreTokens}
 use Rattle.lz_parse.specs.Grammar.{is_mark, mark_at, operand_at, next_at, added_at, sum_at}
 use Rattle.lz_parse.proofs.Loops.{some_is, none_is, bind_some, bind_at, more_some, added_more, added_end}
-use Rattle.lz_parse.proofs.Single.{IsSpelled, spelled_cons, mark_piece, mark_there, mark_back, IsContext, operand_there, operand_back}
+use Rattle.lz_parse.proofs.Single.{IsSpelled, spelled_cons, other_mark, mark_there, mark_back, IsContext, operand_there, operand_back}
 
 module _ (names objects : List (List ℕ)) (cells : List (Option ℕ)) (c : IsContext names objects cells) where
   -- ---- what is read is there
@@ -93,11 +93,7 @@ module _ (names objects : List (List ℕ)) (cells : List (Option ℕ)) (c : IsCo
   no_plus tokens line m after s other =
       let t = spelled_cons names tokens (lexeme line (mark m)) after s in
       let piece : kind_piece names t.0.kind ≡ mark m = ap (λ (l : Lexeme). l.piece) t.3 in
-      let is_no : is_mark Plus t.0.kind ≡ false = false_from_ne_true (is_mark Plus t.0.kind) (λ is.
-      let both : mark Plus ≡ mark m = sym (mark_piece names Plus t.0.kind is) ∙ piece in
-      let same : Plus ≡ m = cc in
-      other same) in
-      ap (mark_at Plus) t.2 ∙ cond-false (is_mark Plus t.0.kind) (Some t.1) None is_no
+      ap (mark_at Plus) t.2 ∙ cond-false (is_mark Plus t.0.kind) (Some t.1) None (other_mark names Plus m t.0.kind piece other)
 
   added_back : (n line : ℕ) (so_far : Expression) (tokens : List Token) (operands : List Operand) (lexemes : List Lexeme) (b : ℕ) (m : Punct) (after : List Lexeme)
       → IsSpelled names tokens lexemes → BeginsWithAdded operands lexemes (lexeme b (mark m) ∷ after) → AllByRecursion (IsOperandOf objects) operands → length operands ≤ n → (Plus ≡ m → ⊥)
