@@ -12,7 +12,7 @@ use Rattle.lz_tree.specs.declared.token.Punct.{Punct}
 use Rattle.lz_tree.specs.declared.token.Punct.TheVariants.{OpenParen, CloseParen, CloseBrace, Semicolon, Assign, Equal, Plus}
 use Rattle.lz_tree.specs.Tokens.{Piece, word, number, mark, Lexeme}
 use Rattle.lz_tree.specs.Scopes.{Expression, binary, Program, IsExpressionOf, IsStatementOf, IsWellFormed}
-use Rattle.lz_tree.specs.FirstForm.{Operand, named, valued, Sum, FormStatement, assignment, assertion, Declaration, FirstForm, lexeme, operand_lexeme, BeginsWithAdded, BeginsWithSum, BeginsWithDeclared, BeginsWithObject, BeginsWithObjects, BeginsWithHead, BeginsWithStatement, AreStatements, Spells, is_among, names_of, IsConstant, IsOperandOf, IsSumOf, IsFormStatementOf, HasNames, number_in, operand_meant, added_meant, sum_meant, statement_meant, meant, IsFirstForm}
+use Rattle.lz_tree.specs.FirstForm.{Operand, named, valued, Sum, FormStatement, assignment, assertion, Declaration, FirstForm, lexeme, operand_lexeme, BeginsWithAdded, BeginsWithSum, BeginsWithDeclared, BeginsWithObjects, BeginsWithHead, BeginsWithStatement, AreStatements, Spells, is_among, names_of, IsConstant, IsOperandOf, IsSumOf, IsFormStatementOf, HasNames, number_in, operand_meant, added_meant, sum_meant, statement_meant, meant, IsFirstForm}
 use Rattle.lz_parse.specs.Lexing.{IsFormLexeme, CanLex}
 use Rattle.lz_parse.proofs.Lexemes.{one_lexing}
 

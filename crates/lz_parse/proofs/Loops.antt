@@ -2,7 +2,6 @@
 use Rattle.std.proofs.Common.{◌≡◌, ℕ, zero, suc, ◌+◌, ◌<◌, ◌≤◌, Bool, true, false, cond, ltb, List, [], ◌∷◌, ◌++◌, length, Option, Some, None, is_some, unwrap_or, refl, sym, ap, subst, ◌∙◌, append_assoc, arith, inl, inr}
 use Rattle.std.specs.Prelude.{◌⊎◌, codes}
 use Rattle.std.specs.Str.{bytes_eq}
-use Rattle.std.proofs.lemmas.Bool.{cases_Bool, cond-true, cond-false}
 use Rattle.std.proofs.lemmas.List.{append-nil, length-set, length-append, length-replicate}
 use Rattle.lz_tree.specs.declared.token.Token.{Token}
 use Rattle.lz_tree.specs.declared.token.TokenKind.{TokenKind}
@@ -16,7 +15,7 @@ use Rattle.lz_parse.specs.declared.error.ParseError.{ParseError}
 use Rattle.lz_parse.specs.declared.error.ParseError.TheVariants as errors
 use Rattle.lz_parse.specs.Reading.{◌>>=◌, Fails}
 use Rattle.lz_parse.specs.Lexing.{name_at}
-use Rattle.lz_parse.specs.Grammar.{Declared, nothing_declared, cell_at, declare, declare_name, is_keyword, is_mark, valued_of, valued_at, initializer_at, object_at, more_objects, objects_at, mark_at, name_of, name_token_at, operand_of, operand_at, more_operands, next_at, added_at, sum_at, assignment_at, assertion_at, statement_at, is_end, ReadStatements}
+use Rattle.lz_parse.specs.Grammar.{Declared, nothing_declared, cell_at, declare, declare_name, is_keyword, is_mark, valued_of, valued_at, initializer_at, object_at, objects_at, mark_at, name_of, name_token_at, operand_of, operand_at, more_operands, next_at, added_at, sum_at, assignment_at, assertion_at, statement_at, is_end, ReadStatements}
 
 pub some_is : {A : Type 0} (x y : A) → Some x ≡ Some y → x ≡ y
 some_is x y e = cc

@@ -1,5 +1,5 @@
 -- Sums: what is read is a sum of the form, and a sum of the form is read.
-use Rattle.std.proofs.Common.{◌≡◌, ℕ, zero, suc, ◌≤◌, true, false, List, [], ◌∷◌, length, Option, Some, None, refl, sym, ap, subst, ◌∙◌, arith, inl, inr}
+use Rattle.std.proofs.Common.{◌≡◌, ℕ, zero, suc, ◌≤◌, List, [], ◌∷◌, length, Option, Some, None, refl, ap, subst, ◌∙◌, arith, inl, inr}
 use Rattle.std.specs.List.{AllByRecursion}
 use Rattle.std.proofs.lemmas.Bool.{cond-false}
 use Rattle.lz_base.specs.declared.operator.Binary.TheVariants.{Add}
@@ -7,13 +7,13 @@ use Rattle.lz_base.specs.declared.word.IntType.TheVariants.{Int}
 use Rattle.lz_tree.specs.declared.token.Token.{Token}
 use Rattle.lz_tree.specs.declared.token.Punct.{Punct}
 use Rattle.lz_tree.specs.declared.token.Punct.TheVariants.{Plus}
-use Rattle.lz_tree.specs.Tokens.{Piece, mark, Lexeme}
+use Rattle.lz_tree.specs.Tokens.{mark, Lexeme}
 use Rattle.lz_tree.specs.Scopes.{Expression, binary}
 use Rattle.lz_tree.specs.FirstForm.{Operand, Sum, lexeme, operand_lexeme, BeginsWithAdded, BeginsWithSum, IsOperandOf, IsSumOf, operand_meant, operand_line, added_meant, sum_meant}
 use Rattle.lz_parse.specs.Reading.{◌>>=◌}
 use Rattle.lz_parse.specs.Lexing.{kind_piece, lexemes_of, AreTokens}
 use Rattle.lz_parse.specs.Grammar.{is_mark, mark_at, operand_at, next_at, added_at, sum_at}
-use Rattle.lz_parse.proofs.Loops.{some_is, none_is, bind_some, bind_at, more_some, added_more, added_end}
+use Rattle.lz_parse.proofs.Loops.{some_is, none_is, bind_some, more_some, added_more, added_end}
 use Rattle.lz_parse.proofs.Single.{IsSpelled, spelled_cons, other_mark, mark_there, mark_back, IsContext, operand_there, operand_back}
 
 module _ (names objects : List (List ℕ)) (cells : List (Option ℕ)) (c : IsContext names objects cells) where

@@ -226,7 +226,7 @@ initializer_back names tokens (Some value) lexemes after s h fits =
     let v = valued_back names t.1 value h.1 h.2 after t.5 fits in (
       v.0,
       ap initializer_at t.2 ∙ cond-false (is_mark Semicolon t.0.kind) _ _ (other_mark names Semicolon Assign t.0.kind piece no_assign)
-      ∙ cond-true (is_mark Assign t.0.kind) _ _ (piece_mark names Assign t.0.kind piece) ∙ v.1,
+          ∙ cond-true (is_mark Assign t.0.kind) _ _ (piece_mark names Assign t.0.kind piece) ∙ v.1,
       v.2,
     )
 

@@ -121,7 +121,13 @@ fn is_sum(value: &ScopedExpr, lines: [u32; 5], constants: [u64; 2], cell: u32) -
     else {
         return false;
     };
-    [*outer_line, *inner_line, *first_line, *second_line, *third_line] == lines
+    [
+        *outer_line,
+        *inner_line,
+        *first_line,
+        *second_line,
+        *third_line,
+    ] == lines
         && [*first_value, *third_value] == constants
         && *second_cell == cell
 }
@@ -129,7 +135,8 @@ fn is_sum(value: &ScopedExpr, lines: [u32; 5], constants: [u64; 2], cell: u32) -
 /// A sum over several lines: each of its parts has the line of its first operand.
 #[test]
 fn lines_of_a_sum(rt: HostRuntime) -> Result<(), Fail> {
-    let text = b"int y;\nint x = 2147483647;\nint main(void) { x =\n1\n+\nx\n+ 2; assert(x + 1 == 0); }";
+    let text =
+        b"int y;\nint x = 2147483647;\nint main(void) { x =\n1\n+\nx\n+ 2; assert(x + 1 == 0); }";
     let scoped = parse(rt.alloc(), text).ok().ok_or("a program")?;
     assert_eq!(rt; scoped.cells.items(), [0, 2_147_483_647].as_slice());
     let [ScopedStmt::Eval { value }, _] = scoped.main.items() else {
