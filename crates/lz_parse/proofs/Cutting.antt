@@ -1,6 +1,6 @@
 -- The piece that `cut` finds stands at the front, and no other piece does.
 use Rattle.std.proofs.Common.{◌≡◌, ℕ, suc, ◌+◌, ◌≤◌, Bool, true, false, cond, eqb, List, [], ◌∷◌, ◌++◌, length, take, drop, Option, Some, None, refl, sym, ap, subst, ◌∙◌, append_assoc, arith, inl, inr}
-use Rattle.std.specs.Prelude.{◌&&◌, ◌⊎◌}
+use Rattle.std.specs.Prelude.{◌&&◌, ◌||◌, ◌⊎◌}
 use Rattle.std.specs.List.{prefix_len, list_all}
 use Rattle.std.specs.Char.{is_ascii_digit}
 use Rattle.std.proofs.lemmas.Bool.{cases_Bool, cond-true, cond-false, and_parts, and_from, or_left, or_right, eqb-true}
@@ -8,9 +8,9 @@ use Rattle.std.proofs.lemmas.Bool.Decides.{nat_tests}
 use Rattle.std.proofs.lemmas.List.{take_at, drop_at, take-append-drop, length-append}
 use Rattle.std.proofs.lemmas.List.Folds.{length-prefix_len, list_all-append}
 use Rattle.lz_tree.specs.declared.token.Punct.{Punct}
-use Rattle.lz_tree.specs.declared.token.Punct.TheVariants.{OpenParen, CloseParen, OpenBrace, CloseBrace, Semicolon, Assign, Equal}
+use Rattle.lz_tree.specs.declared.token.Punct.TheVariants.{OpenParen, CloseParen, OpenBrace, CloseBrace, Semicolon, Assign, Equal, Plus, Increment, AddAssign}
 use Rattle.lz_tree.specs.Tokens.{Piece, blank, word, number, mark, text, punct_text, is_blank, is_word_start, is_word_byte, IsWord, IsDigits, IsPiece, MayFollow, Stands}
-use Rattle.lz_parse.specs.Cutting.{begins, cut, cut_word, cut_number, cut_mark, cut_equal}
+use Rattle.lz_parse.specs.Cutting.{begins, cut, cut_word, cut_number, cut_mark, cut_equal, cut_plus}
 
 -- ---- bytes of one class
 
@@ -31,6 +31,9 @@ blank_no_digit b h = grind (arith, nat_tests)
 
 blank_no_equal : (b : ℕ) → is_blank b ≡ true → eqb b 61 ≡ false
 blank_no_equal b h = grind (arith, nat_tests)
+
+blank_no_plus : (b : ℕ) → is_blank b ≡ true → eqb b 43 ≡ false
+blank_no_plus b h = grind (arith, nat_tests)
 
 -- ---- the longest front that passes a test
 
@@ -60,11 +63,23 @@ taken_pass p (x ∷ xs) =
 
 -- ---- how long a piece at the front may be
 
+-- what makes a mark that begins with `+` longer
+abbrev is_plus_end : ℕ → Bool
+is_plus_end b = eqb b 43 || eqb b 61
+
+abbrev longest_mark : ℕ → List ℕ → ℕ
+longest_mark first rest =
+    cond (eqb first 61 && begins (λ b. eqb b 61) rest) 2 (cond (eqb first 43 && begins is_plus_end rest) 2 1)
+
 abbrev longest_at : List ℕ → ℕ
 longest_at [] = 0
 longest_at (first ∷ rest) =
     cond (is_word_start first) (prefix_len is_word_byte (first ∷ rest))
-    (cond (is_ascii_digit first) (prefix_len is_ascii_digit (first ∷ rest)) (cond (eqb first 61 && begins (λ b. eqb b 61) rest) 2 1))
+    (cond (is_ascii_digit first) (prefix_len is_ascii_digit (first ∷ rest)) (longest_mark first rest))
+
+or_false : (a b : Bool) → a ≡ false → b ≡ false → (a || b) ≡ false
+or_false true b e f = absurd cc
+or_false false b e f = f
 
 at_true : (b : Bool) (x y n : ℕ) → b ≡ true → n ≤ x → n ≤ cond b x y
 at_true true x y n e h = h
@@ -80,7 +95,7 @@ at_both false x y n h k = k
 
 bound : (other : Piece) (after : List ℕ) → IsPiece other → length (text other) ≤ longest_at (text other ++ after)
 bound (blank b) after h =
-    at_false (is_word_start b) _ _ 1 (blank_no_start b h) (at_false (is_ascii_digit b) _ _ 1 (blank_no_digit b h) (at_both _ 2 1 1 (omega arith) (omega arith)))
+    at_false (is_word_start b) _ _ 1 (blank_no_start b h) (at_false (is_ascii_digit b) _ _ 1 (blank_no_digit b h) (at_both _ 2 _ 1 (omega arith) (at_both _ 2 1 1 (omega arith) (omega arith))))
 bound (word []) after h = absurd h
 bound (word (f ∷ ws)) after h =
     at_true (is_word_start f) _ _ _ h.0 (omega (arith, prefix_all is_word_byte (f ∷ ws) after (and_from (is_word_byte f) (list_all is_word_byte ws) (start_is_byte f h.0) h.1)))
@@ -94,6 +109,9 @@ bound (mark CloseBrace) after h = omega arith
 bound (mark Semicolon) after h = omega arith
 bound (mark Assign) after h = at_both (begins (λ b. eqb b 61) after) 2 1 1 (omega arith) (omega arith)
 bound (mark Equal) after h = omega arith
+bound (mark Plus) after h = at_both (begins is_plus_end after) 2 1 1 (omega arith) (omega arith)
+bound (mark Increment) after h = omega arith
+bound (mark AddAssign) after h = omega arith
 
 -- ---- what `cut` finds
 
@@ -183,6 +201,28 @@ equal_is (b ∷ bs) x e =
       | inr fail ↦ one_mark Assign 61 61 (b ∷ bs) x refl (sym (cond-false (eqb b 61) 2 1 fail.0)) refl fail.1
     ]
 
+plus_is : (rest : List ℕ) (x : Piece × List ℕ) → cut_plus rest ≡ Some x → IsCut (43 ∷ rest) x.0 x.1
+unfolding cut_plus
+plus_is [] x e = one_mark Plus 43 43 [] x refl refl refl e
+plus_is (b ∷ bs) x e =
+    elim (if_some (eqb b 43) (Some (mark Increment, bs)) _ x e) [
+      | inl pass ↦
+          let at : b ≡ 43 = eqb-true b 43 pass.0 in
+          let found : IsCut (43 ∷ 43 ∷ bs) (mark Increment) bs = record { parts = refl; is = tt; follows = tt; longest = refl } in
+          let moved : IsCut (43 ∷ b ∷ bs) (mark Increment) bs = subst (λ (f : ℕ). IsCut (43 ∷ f ∷ bs) (mark Increment) bs) (sym at) found in
+          subst (λ (y : Piece × List ℕ). IsCut (43 ∷ b ∷ bs) y.0 y.1) (some_is (mark Increment, bs) x pass.1) moved
+      | inr more ↦ elim (if_some (eqb b 61) (Some (mark AddAssign, bs)) (Some (mark Plus, b ∷ bs)) x more.1) [
+        | inl pass ↦
+            let at : b ≡ 61 = eqb-true b 61 pass.0 in
+            let found : IsCut (43 ∷ 61 ∷ bs) (mark AddAssign) bs = record { parts = refl; is = tt; follows = tt; longest = refl } in
+            let moved : IsCut (43 ∷ b ∷ bs) (mark AddAssign) bs = subst (λ (f : ℕ). IsCut (43 ∷ f ∷ bs) (mark AddAssign) bs) (sym at) found in
+            subst (λ (y : Piece × List ℕ). IsCut (43 ∷ b ∷ bs) y.0 y.1) (some_is (mark AddAssign, bs) x pass.1) moved
+        | inr fail ↦
+            let one : 1 ≡ cond (is_plus_end b) 2 1 = sym (cond-false (is_plus_end b) 2 1 (or_false (eqb b 43) (eqb b 61) more.0 fail.0)) in
+            one_mark Plus 43 43 (b ∷ bs) x refl one refl fail.1
+      ]
+    ]
+
 mark_is : (first : ℕ) (rest : List ℕ) (x : Piece × List ℕ) → cut_mark (first ∷ rest) ≡ Some x → IsCut (first ∷ rest) x.0 x.1
 unfolding cut_mark
 mark_is first rest x e =
@@ -198,7 +238,10 @@ mark_is first rest x e =
               | inl f ↦ one_mark Semicolon 59 first rest x refl refl f.0 f.1
               | inr f ↦ elim (if_some (eqb first 61) _ _ x f.1) [
                 | inl g ↦ subst (λ (h : ℕ). IsCut (h ∷ rest) x.0 x.1) (sym (eqb-true first 61 g.0)) (equal_is rest x g.1)
-                | inr g ↦ let fail : None ≡ Some x = g.1 in absurd cc
+                | inr g ↦ elim (if_some (eqb first 43) _ _ x g.1) [
+                  | inl h ↦ subst (λ (h : ℕ). IsCut (h ∷ rest) x.0 x.1) (sym (eqb-true first 43 h.0)) (plus_is rest x h.1)
+                  | inr h ↦ let fail : None ≡ Some x = h.1 in absurd cc
+                ]
               ]
             ]
           ]
@@ -210,7 +253,8 @@ blank_is : (first : ℕ) (rest : List ℕ) (x : Piece × List ℕ) → is_blank 
 blank_is first rest x h e =
     let one : 1 ≡ longest_at (first ∷ rest) =
     sym (cond-false (is_word_start first) _ _ (blank_no_start first h) ∙ cond-false (is_ascii_digit first) _ _ (blank_no_digit first h)
-    ∙ ap (λ (t : Bool). cond (t && begins (λ b. eqb b 61) rest) 2 1) (blank_no_equal first h)) in
+    ∙ ap (λ (t : Bool). cond (t && begins (λ b. eqb b 61) rest) 2 (cond (eqb first 43 && begins is_plus_end rest) 2 1)) (blank_no_equal first h)
+    ∙ ap (λ (t : Bool). cond (t && begins is_plus_end rest) 2 1) (blank_no_plus first h)) in
     let found : IsCut (first ∷ rest) (blank first) rest = record { parts = refl; is = h; follows = tt; longest = one } in
     subst (λ (y : Piece × List ℕ). IsCut (first ∷ rest) y.0 y.1) (some_is (blank first, rest) x e) found
 
@@ -277,6 +321,22 @@ front_equal (b ∷ bs) s =
       | inr fail ↦ cond-false (eqb b 61) _ _ fail
     ]
 
+front_plus : (rest : List ℕ) → Stands (mark Plus) rest → cut_plus rest ≡ Some (mark Plus, rest)
+unfolding cut_plus
+front_plus [] s = refl
+front_plus (b ∷ bs) s =
+    elim (cases_Bool (eqb b 43)) [
+      | inl pass ↦
+          let longer : 2 ≤ 1 = s.longest (mark Increment) bs tt (ap (λ (f : ℕ). 43 ∷ f ∷ bs) (sym (eqb-true b 43 pass))) in
+          absurd (omega arith)
+      | inr fail ↦ cond-false (eqb b 43) _ _ fail ∙ elim (cases_Bool (eqb b 61)) [
+        | inl pass ↦
+            let longer : 2 ≤ 1 = s.longest (mark AddAssign) bs tt (ap (λ (f : ℕ). 43 ∷ f ∷ bs) (sym (eqb-true b 61 pass))) in
+            absurd (omega arith)
+        | inr other ↦ cond-false (eqb b 61) _ _ other
+      ]
+    ]
+
 cut_front : (piece : Piece) (rest : List ℕ) → Stands piece rest → cut (text piece ++ rest) ≡ Some (piece, rest)
 unfolding cut cut_mark
 cut_front (blank b) rest s =
@@ -297,6 +357,9 @@ cut_front (mark CloseBrace) rest s = refl
 cut_front (mark Semicolon) rest s = refl
 cut_front (mark Assign) rest s = front_equal rest s
 cut_front (mark Equal) rest s = unfold cut_equal in refl
+cut_front (mark Plus) rest s = front_plus rest s
+cut_front (mark Increment) rest s = unfold cut_plus in refl
+cut_front (mark AddAssign) rest s = unfold cut_plus in refl
 
 -- a piece that stands at the front is what is cut
 pub cut_only : (bytes : List ℕ) (piece : Piece) (rest : List ℕ) → bytes ≡ text piece ++ rest → Stands piece rest → cut bytes ≡ Some (piece, rest)

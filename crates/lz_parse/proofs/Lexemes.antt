@@ -5,7 +5,7 @@ use Rattle.std.proofs.lemmas.List.{append-nil, length-append}
 use Rattle.std.proofs.lemmas.Bool.{cond_both}
 use Rattle.lz_tree.specs.declared.token.Token.{Token}
 use Rattle.lz_tree.specs.declared.token.Punct.{Punct}
-use Rattle.lz_tree.specs.declared.token.Punct.TheVariants.{OpenParen, CloseParen, OpenBrace, CloseBrace, Semicolon, Assign, Equal}
+use Rattle.lz_tree.specs.declared.token.Punct.TheVariants.{OpenParen, CloseParen, OpenBrace, CloseBrace, Semicolon, Assign, Equal, Plus, Increment, AddAssign}
 use Rattle.lz_tree.specs.Tokens.{Piece, blank, word, number, mark, text, punct_text, line_after, Stands, CutInto, Lexeme, lexemes_from, HasLexemes}
 use Rattle.lz_parse.specs.Cutting.{cut}
 use Rattle.lz_parse.specs.Lexing.{AreTokens, AreTokensOf, Takes, IsAt, LexesTo, CanLex, IsFormPiece, IsFormLexeme, line_behind, lexemes_of}
@@ -131,6 +131,9 @@ some_text (mark m) rest s = by m
     by Semicolon = omega arith
     by Assign = omega arith
     by Equal = omega arith
+    by Plus = omega arith
+    by Increment = omega arith
+    by AddAssign = omega arith
 
 -- a piece is shorter by a byte at least
 pub cut_shorter : (bytes : List ℕ) (piece : Piece) (rest : List ℕ) → cut bytes ≡ Some (piece, rest) → length rest < length bytes

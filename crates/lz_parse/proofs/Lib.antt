@@ -8,5 +8,6 @@ pub mod Interning
 pub mod Errors
 pub mod Loops
 pub mod Single
+pub mod Sums
 pub mod Statements
 pub mod Whole

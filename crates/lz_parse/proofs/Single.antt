@@ -2,7 +2,7 @@
 use Rattle.std.proofs.Common.{◌≡◌, ℕ, zero, suc, ◌<◌, true, false, List, [], ◌∷◌, length, Option, Some, None, refl, sym, ap, subst, ◌∙◌, arith}
 use Rattle.std.specs.Prelude.{codes}
 use Rattle.std.specs.Fmt.{decimal}
-use Rattle.std.proofs.lemmas.Bool.{cond-true, eqb-true, eq-eqb}
+use Rattle.std.proofs.lemmas.Bool.{cond-true, false_from_ne_true, eqb-true, eq-eqb}
 use Rattle.std.proofs.lemmas.Fmt.{decimal_injective}
 use Rattle.lz_tree.specs.declared.token.Token.{Token}
 use Rattle.lz_tree.specs.declared.token.TokenKind.{TokenKind}
@@ -10,11 +10,11 @@ use Rattle.lz_tree.specs.declared.token.TokenKind.TheVariants as kinds
 use Rattle.lz_tree.specs.declared.token.Keyword.{Keyword}
 use Rattle.lz_tree.specs.declared.token.Keyword.TheVariants.{Int, Void}
 use Rattle.lz_tree.specs.declared.token.Punct.{Punct}
-use Rattle.lz_tree.specs.declared.token.Punct.TheVariants.{OpenParen, CloseParen, OpenBrace, CloseBrace, Semicolon, Assign, Equal}
+use Rattle.lz_tree.specs.declared.token.Punct.TheVariants.{OpenParen, CloseParen, OpenBrace, CloseBrace, Semicolon, Assign, Equal, Plus, Increment, AddAssign}
 use Rattle.lz_tree.specs.declared.scoped.Object.TheVariants.{Cell}
 use Rattle.lz_tree.specs.Tokens.{Piece, word, number, mark, Lexeme}
 use Rattle.lz_tree.specs.Scopes.{Expression, constant, read}
-use Rattle.lz_tree.specs.FirstForm.{Operand, named, number_of, lexeme, operand_lexeme, is_among, is_reserved, number_in, IsOperandOf, operand_meant, operand_line}
+use Rattle.lz_tree.specs.FirstForm.{Operand, named, valued, lexeme, operand_lexeme, is_among, is_reserved, number_in, IsOperandOf, operand_meant, operand_line}
 use Rattle.lz_parse.specs.Lexing.{keyword_text, name_at, kind_piece, lexeme_of, lexemes_of, IsKindOf, AreNames, AreTokens}
 use Rattle.lz_parse.specs.Grammar.{punct_number, keyword_number, is_mark, is_keyword, mark_at, keyword_at, name_of, name_token_at, cell_at, operand_of, operand_at}
 use Rattle.lz_parse.proofs.Tables.{cell_of, cell_found}
@@ -52,7 +52,10 @@ punct_of (suc (suc zero)) = OpenBrace
 punct_of (suc (suc (suc zero))) = CloseBrace
 punct_of (suc (suc (suc (suc zero)))) = Semicolon
 punct_of (suc (suc (suc (suc (suc zero))))) = Assign
-punct_of (suc (suc (suc (suc (suc (suc n)))))) = Equal
+punct_of (suc (suc (suc (suc (suc (suc zero)))))) = Equal
+punct_of (suc (suc (suc (suc (suc (suc (suc zero))))))) = Plus
+punct_of (suc (suc (suc (suc (suc (suc (suc (suc zero)))))))) = Increment
+punct_of (suc (suc (suc (suc (suc (suc (suc (suc (suc n))))))))) = AddAssign
 
 punct_back : (m : Punct) → punct_of (punct_number m) ≡ m
 unfolding punct_of
@@ -63,6 +66,9 @@ punct_back CloseBrace = refl
 punct_back Semicolon = refl
 punct_back Assign = refl
 punct_back Equal = refl
+punct_back Plus = refl
+punct_back Increment = refl
+punct_back AddAssign = refl
 
 pub mark_piece : (names : List (List ℕ)) (wanted : Punct) (kind : TokenKind) → is_mark wanted kind ≡ true → kind_piece names kind ≡ mark wanted
 mark_piece names wanted (kinds.Name n) h = absurd cc
@@ -76,6 +82,14 @@ piece_mark names wanted (kinds.Name n) h = absurd cc
 piece_mark names wanted (kinds.Constant v) h = absurd cc
 piece_mark names wanted (kinds.Keyword k) h = absurd cc
 piece_mark names wanted (kinds.Punct m) h = let same : m ≡ wanted = cc in eq-eqb (punct_number m) (punct_number wanted) (ap punct_number same)
+
+-- another mark
+pub other_mark : (names : List (List ℕ)) (wanted m : Punct) (kind : TokenKind) → kind_piece names kind ≡ mark m → (wanted ≡ m → ⊥) → is_mark wanted kind ≡ false
+other_mark names wanted m kind e other =
+    false_from_ne_true (is_mark wanted kind) (λ is.
+    let both : mark wanted ≡ mark m = sym (mark_piece names wanted kind is) ∙ e in
+    let same : wanted ≡ m = cc in
+    other same)
 
 pub mark_there : (names : List (List ℕ)) (wanted : Punct) (tokens rest : List Token) → AreTokens names tokens → mark_at wanted tokens ≡ Some rest → (line : ℕ) × IsTaken names tokens (lexeme line (mark wanted)) rest
 unfolding mark_at
@@ -237,7 +251,7 @@ operand_there names objects cells (t ∷ ts) x c s e = by t.kind s.all.0 e (tail
         let b = bind_some (cell_at cells n) (λ cell. Some (t.line, read t.line (Cell cell), ts)) x e in
         let cell = cell_there names objects cells n b.0 c lt b.1 in
         made (named t.line (name_at names n)) (read t.line (Cell b.0)) (kinds.Name n) refl cell.0 (ap (λ (k : ℕ). read t.line (Cell k)) cell.1) refl sound b.2 same
-    by (kinds.Constant v) lt e sound same = made (number_of t.line v) (constant t.line v) (kinds.Constant v) refl lt refl refl sound e same
+    by (kinds.Constant v) lt e sound same = made (valued t.line v) (constant t.line v) (kinds.Constant v) refl lt refl refl sound e same
     by (kinds.Keyword k) lt e sound same = absurd (none_is x e)
     by (kinds.Punct p) lt e sound same = absurd (none_is x e)
 
@@ -258,7 +272,7 @@ operand_back names objects cells tokens (named line x) after c s h =
     by at rest (kinds.Constant v) lt e same = absurd cc
     by at rest (kinds.Keyword k) lt e same = let is : x ≡ keyword_text k = cc in absurd (no_keyword x (c.free x h) k is)
     by at rest (kinds.Punct p) lt e same = absurd cc
-operand_back names objects cells tokens (number_of line value) after c s h =
+operand_back names objects cells tokens (valued line value) after c s h =
     let t = spelled_cons names tokens (lexeme line (number (decimal value))) after s in
     let piece : kind_piece names t.0.kind ≡ number (decimal value) = ap (λ (l : Lexeme). l.piece) t.3 in
     (t.1, ap (operand_at cells) t.2 ∙ by t.0.line t.1 t.0.kind t.4 piece (ap (λ (l : Lexeme). l.line) t.3), t.5)

@@ -1,5 +1,5 @@
 -- The table of the cells by the numbers of the names, through the declarations.
-use Rattle.std.proofs.Common.{◌≡◌, ℕ, ◌+◌, ◌<◌, Bool, true, false, cond, ltb, List, [], ◌∷◌, ◌++◌, length, set, Option, Some, None, is_some, refl, sym, ap, subst, ◌∙◌, arith, inl, inr}
+use Rattle.std.proofs.Common.{◌≡◌, ℕ, ◌+◌, ◌<◌, Bool, true, false, cond, ltb, List, [], ◌∷◌, ◌++◌, length, set, Option, Some, None, is_some, unwrap_or, refl, sym, ap, subst, ◌∙◌, arith, inl, inr}
 use Rattle.std.specs.Prelude.{◌||◌}
 use Rattle.std.specs.Str.{bytes_eq}
 use Rattle.std.proofs.lemmas.Bool.{cases_Bool, cases_eq, cond-true, cond-false, false_from_ne_true, or_parts, lt-ltb}
@@ -69,7 +69,7 @@ cell-push_other objects x y e =
 pub record IsTable (names objects : List (List ℕ)) (st : Declared) : Type 0 where
   pub len : length st.cells ≡ length names
   pub cells : (n : ℕ) → n < length names → cell_at st.cells n ≡ cell_of objects (name_at names n)
-  pub count : st.count ≡ length objects
+  pub count : length st.values ≡ length objects
 
 pub table_none : (names : List (List ℕ)) → IsTable names [] (nothing_declared (length names))
 table_none names =
@@ -96,11 +96,11 @@ cell_found objects name cell e = by (is_among objects name) e
     by false e = absurd cc
 
 -- what a declaration adds
-pub declares : (names objects : List (List ℕ)) (st st' : Declared) (n : ℕ) → AreNames names → IsTable names objects st → n < length names → declare names st (kinds.Name n) ≡ Some st'
-    → (is_reserved (name_at names n) ≡ false) × (is_among objects (name_at names n) ≡ false) × IsTable names (objects ++ name_at names n ∷ []) st'
+pub declares : (names objects : List (List ℕ)) (st st' : Declared) (n : ℕ) (initializer : Option ℕ) → AreNames names → IsTable names objects st → n < length names → declare names st (kinds.Name n) initializer ≡ Some st'
+    → (is_reserved (name_at names n) ≡ false) × (is_among objects (name_at names n) ≡ false) × IsTable names (objects ++ name_at names n ∷ []) st' × (st'.values ≡ st.values ++ unwrap_or initializer 0 ∷ [])
 unfolding declare declare_name
-declares names objects st st' n apart table lt whole =
-    let e : declare_name names st n ≡ Some st' = sym (cond-true (ltb n (length names)) (declare_name names st n) None (lt-ltb n (length names) lt)) ∙ whole in
+declares names objects st st' n initializer apart table lt whole =
+    let e : declare_name names st n initializer ≡ Some st' = sym (cond-true (ltb n (length names)) (declare_name names st n initializer) None (lt-ltb n (length names) lt)) ∙ whole in
     elim (cases_Bool (is_reserved (name_at names n))) [
       | inl bad ↦ let no_table : None ≡ Some st' = sym (cond-true (is_reserved (name_at names n)) _ _ bad) ∙ e in absurd cc
       | inr free ↦
@@ -108,34 +108,34 @@ declares names objects st st' n apart table lt whole =
           elim (cases_Bool (is_some (cell_at st.cells n))) [
             | inl bad ↦ let no_table : None ≡ Some st' = sym (cond-true (is_some (cell_at st.cells n)) _ _ bad) ∙ e1 in absurd cc
             | inr fresh ↦
-                let made : Declared = record { cells = set st.cells n (Some st.count); count = st.count + 1 } in
+                let made : Declared = record { cells = set st.cells n (Some (length st.values)); values = st.values ++ unwrap_or initializer 0 ∷ [] } in
                 let e2 : Some made ≡ Some st' = sym (cond-false (is_some (cell_at st.cells n)) _ _ fresh) ∙ e1 in
                 let is : made ≡ st' = cc in
                 let new : is_among objects (name_at names n) ≡ false = sym (is_some_among objects (name_at names n)) ∙ sym (ap is_some (table.cells n lt)) ∙ fresh in
-                (free, new, subst (λ (t : Declared). IsTable names (objects ++ name_at names n ∷ []) t) is (pushed new))
+                (free, new, subst (λ (t : Declared). IsTable names (objects ++ name_at names n ∷ []) t) is (pushed new), ap (λ (t : Declared). t.values) (sym is))
           ]
     ]
   where
-    pushed : is_among objects (name_at names n) ≡ false → IsTable names (objects ++ name_at names n ∷ []) (record { cells = set st.cells n (Some st.count); count = st.count + 1 })
+    pushed : is_among objects (name_at names n) ≡ false → IsTable names (objects ++ name_at names n ∷ []) (record { cells = set st.cells n (Some (length st.values)); values = st.values ++ unwrap_or initializer 0 ∷ [] })
     pushed new = record {
-      len = length-set st.cells n (Some st.count) ∙ table.len;
+      len = length-set st.cells n (Some (length st.values)) ∙ table.len;
       cells = λ m below. elim (cases_eq m n) [
         | inl same ↦
             let inside : n < length st.cells = omega (arith, table.len) in
-            subst (λ (k : ℕ). cell_at (set st.cells n (Some st.count)) k ≡ cell_of (objects ++ name_at names n ∷ []) (name_at names k)) (sym same)
-            (get_or-set_same st.cells n (Some st.count) None inside ∙ ap (λ (k : ℕ). Some k) table.count
+            subst (λ (k : ℕ). cell_at (set st.cells n (Some (length st.values))) k ≡ cell_of (objects ++ name_at names n ∷ []) (name_at names k)) (sym same)
+            (get_or-set_same st.cells n (Some (length st.values)) None inside ∙ ap (λ (k : ℕ). Some k) table.count
             ∙ sym (cell-push_same objects (name_at names n) (name_at names n) new (same_bytes (name_at names n) (name_at names n) refl)))
         | inr other ↦
             let differ : bytes_eq (name_at names m) (name_at names n) ≡ false = false_from_ne_true (bytes_eq (name_at names m) (name_at names n)) (λ h. other (apart.distinct m n below lt (bytes_same (name_at names m) (name_at names n) h))) in
-            get_or-set_other st.cells n m (Some st.count) None other ∙ table.cells m below ∙ sym (cell-push_other objects (name_at names n) (name_at names m) differ)
+            get_or-set_other st.cells n m (Some (length st.values)) None other ∙ table.cells m below ∙ sym (cell-push_other objects (name_at names n) (name_at names m) differ)
       ];
-      count = omega (arith, table.count, length-append objects (name_at names n ∷ []));
+      count = omega (arith, table.count, length-append objects (name_at names n ∷ []), length-append st.values (unwrap_or initializer 0 ∷ []));
     }
 
 -- a name that is free and new is declared
-pub declares_new : (names objects : List (List ℕ)) (st : Declared) (n : ℕ) → IsTable names objects st → n < length names → is_reserved (name_at names n) ≡ false → is_among objects (name_at names n) ≡ false
-    → declare names st (kinds.Name n) ≡ Some (record { cells = set st.cells n (Some st.count); count = st.count + 1 })
+pub declares_new : (names objects : List (List ℕ)) (st : Declared) (n : ℕ) (initializer : Option ℕ) → IsTable names objects st → n < length names → is_reserved (name_at names n) ≡ false → is_among objects (name_at names n) ≡ false
+    → declare names st (kinds.Name n) initializer ≡ Some (record { cells = set st.cells n (Some (length st.values)); values = st.values ++ unwrap_or initializer 0 ∷ [] })
 unfolding declare declare_name
-declares_new names objects st n table lt free new =
+declares_new names objects st n initializer table lt free new =
     let fresh : is_some (cell_at st.cells n) ≡ false = ap is_some (table.cells n lt) ∙ is_some_among objects (name_at names n) ∙ new in
-    cond-true (ltb n (length names)) (declare_name names st n) None (lt-ltb n (length names) lt) ∙ cond-false (is_reserved (name_at names n)) _ _ free ∙ cond-false (is_some (cell_at st.cells n)) _ _ fresh
+    cond-true (ltb n (length names)) (declare_name names st n initializer) None (lt-ltb n (length names) lt) ∙ cond-false (is_reserved (name_at names n)) _ _ free ∙ cond-false (is_some (cell_at st.cells n)) _ _ fresh

@@ -2,7 +2,7 @@
 use Rattle.std.specs.Prelude.{ℕ, ◌==◌, Bool, false, List, [], ◌∷◌, take, drop, Option, Some, None, if◌then◌else◌}
 use Rattle.std.specs.List.{prefix_len}
 use Rattle.std.specs.Char.{is_ascii_digit}
-use Rattle.lz_tree.specs.declared.token.Punct.TheVariants.{OpenParen, CloseParen, OpenBrace, CloseBrace, Semicolon, Assign, Equal}
+use Rattle.lz_tree.specs.declared.token.Punct.TheVariants.{OpenParen, CloseParen, OpenBrace, CloseBrace, Semicolon, Assign, Equal, Plus, Increment, AddAssign}
 use Rattle.lz_tree.specs.Tokens.{Piece, blank, word, number, mark, is_blank, is_word_start, is_word_byte}
 use Rattle.lz_parse.specs.declared.piece.Piece.{Piece as Found}
 use Rattle.lz_parse.specs.declared.piece.Piece.TheVariants as found
@@ -31,6 +31,13 @@ unfoldable pub cut_equal : List ℕ → Option (Piece × List ℕ)
 cut_equal [] = Some (mark Assign, [])
 cut_equal (byte ∷ bytes) = if byte == 61 then Some (mark Equal, bytes) else Some (mark Assign, byte ∷ bytes)
 
+unfoldable pub cut_plus : List ℕ → Option (Piece × List ℕ)
+cut_plus [] = Some (mark Plus, [])
+cut_plus (byte ∷ bytes) =
+    if byte == 43 then Some (mark Increment, bytes)
+    else if byte == 61 then Some (mark AddAssign, bytes)
+    else Some (mark Plus, byte ∷ bytes)
+
 unfoldable pub cut_mark : List ℕ → Option (Piece × List ℕ)
 cut_mark [] = None
 cut_mark (first ∷ rest) =
@@ -40,6 +47,7 @@ cut_mark (first ∷ rest) =
     else if first == 125 then Some (mark CloseBrace, rest)
     else if first == 59 then Some (mark Semicolon, rest)
     else if first == 61 then cut_equal rest
+    else if first == 43 then cut_plus rest
     else None
 
 -- the longest piece at the front that may stand there, and the bytes behind it

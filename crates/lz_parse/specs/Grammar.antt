@@ -1,8 +1,8 @@
 -- Reading the tokens of the first form from the left. Names are numbers here: the texts are looked at
 -- where a name is declared, and where `main` and `assert` stand.
-use Rattle.std.specs.Prelude.{◌≡◌, ℕ, ◌+◌, ◌==◌, Bool, true, false, ◌&&◌, List, [], ◌∷◌, length, codes, replicate, Option, Some, None, is_some, nat_lt, slice_set, slice_index_or, if◌then◌else◌}
+use Rattle.std.specs.Prelude.{◌≡◌, ℕ, ◌==◌, Bool, true, false, List, [], ◌∷◌, ◌++◌, zero, suc, length, codes, replicate, Option, Some, None, is_some, unwrap_or, nat_lt, slice_set, slice_index_or, if◌then◌else◌}
 use Rattle.std.specs.Str.{bytes_eq}
-use Rattle.lz_base.specs.declared.operator.Binary.TheVariants.{Eq}
+use Rattle.lz_base.specs.declared.operator.Binary.TheVariants.{Add, Eq}
 use Rattle.lz_base.specs.declared.word.IntType.TheVariants as widths
 use Rattle.lz_tree.specs.declared.token.Token.{Token}
 use Rattle.lz_tree.specs.declared.token.TokenKind.{TokenKind}
@@ -10,7 +10,7 @@ use Rattle.lz_tree.specs.declared.token.TokenKind.TheVariants as kinds
 use Rattle.lz_tree.specs.declared.token.Keyword.{Keyword}
 use Rattle.lz_tree.specs.declared.token.Keyword.TheVariants.{Int, Void}
 use Rattle.lz_tree.specs.declared.token.Punct.{Punct}
-use Rattle.lz_tree.specs.declared.token.Punct.TheVariants.{OpenParen, CloseParen, OpenBrace, CloseBrace, Semicolon, Assign, Equal}
+use Rattle.lz_tree.specs.declared.token.Punct.TheVariants.{OpenParen, CloseParen, OpenBrace, CloseBrace, Semicolon, Assign, Equal, Plus, Increment, AddAssign}
 use Rattle.lz_tree.specs.declared.scoped.KnownName.TheVariants.{Assert}
 use Rattle.lz_tree.specs.declared.scoped.Object.TheVariants.{Cell}
 use Rattle.lz_tree.specs.Scopes.{Expression, constant, read, binary, assign, call, Statement, eval, Program}
@@ -29,6 +29,9 @@ punct_number CloseBrace = 3
 punct_number Semicolon = 4
 punct_number Assign = 5
 punct_number Equal = 6
+punct_number Plus = 7
+punct_number Increment = 8
+punct_number AddAssign = 9
 
 abbrev pub keyword_number : Keyword → ℕ
 keyword_number Int = 0
@@ -69,49 +72,73 @@ name_token_at (token ∷ rest) = name_of token.line rest token.kind
 
 -- ---- declarations
 
--- the cell of each name that is declared, by the number of the name, and how many are declared
+-- the cell of each name that is declared, by the number of the name, and the first values of the cells
 pub record Declared : Type 0 where
   pub cells : List (Option ℕ)
-  pub count : ℕ
+  pub values : List ℕ
 
 abbrev pub declared_of : Objects → Declared
-declared_of objects = record { cells = objects.cells.items; count = objects.count }
+declared_of objects = record { cells = objects.cells.items; values = objects.values }
 
 abbrev pub nothing_declared : ℕ → Declared
-nothing_declared names = record { cells = replicate names None; count = 0 }
+nothing_declared names = record { cells = replicate names None; values = [] }
 
 -- the cell of a name
 abbrev pub cell_at : List (Option ℕ) → ℕ → Option ℕ
 cell_at cells number = slice_index_or cells number None
 
--- one more object, if its name is neither reserved nor declared
-unfoldable pub declare_name : List (List ℕ) → Declared → ℕ → Option Declared
-declare_name names before number =
+-- one more object, if its name is neither reserved nor declared, which starts at its initializer or at 0
+unfoldable pub declare_name : List (List ℕ) → Declared → ℕ → Option ℕ → Option Declared
+declare_name names before number initializer =
     if is_reserved (name_at names number) then None
     else if is_some (cell_at before.cells number) then None
-    else Some (record { cells = slice_set before.cells number (Some before.count); count = before.count + 1 })
+    else Some (record {
+      cells = slice_set before.cells number (Some (length before.values));
+      values = before.values ++ unwrap_or initializer 0 ∷ [];
+    })
 
-unfoldable pub declare : List (List ℕ) → Declared → TokenKind → Option Declared
-declare names before (kinds.Name number) = if nat_lt number (length names) then declare_name names before number else None
-declare names before (kinds.Constant value) = None
-declare names before (kinds.Keyword keyword) = None
-declare names before (kinds.Punct punct) = None
+unfoldable pub declare : List (List ℕ) → Declared → TokenKind → Option ℕ → Option Declared
+declare names before (kinds.Name number) initializer =
+    if nat_lt number (length names) then declare_name names before number initializer else None
+declare names before (kinds.Constant value) initializer = None
+declare names before (kinds.Keyword keyword) initializer = None
+declare names before (kinds.Punct punct) initializer = None
 
--- the kind of what stands between `int` and `;`, and what comes behind
-unfoldable pub object_at : List Token → Option (TokenKind × List Token)
+-- a constant and `;`, and what comes behind
+abbrev pub valued_of : List Token → TokenKind → Option (Option ℕ × List Token)
+valued_of rest (kinds.Name number) = None
+valued_of rest (kinds.Constant value) = Some (Some value, rest)
+valued_of rest (kinds.Keyword keyword) = None
+valued_of rest (kinds.Punct punct) = None
+
+unfoldable pub valued_at : List Token → Option (Option ℕ × List Token)
+valued_at [] = None
+valued_at (a ∷ []) = None
+valued_at (a ∷ b ∷ rest) = if is_mark Semicolon b.kind then valued_of rest a.kind else None
+
+-- what stands behind a declared name: `;`, or `=` with a constant and `;`
+unfoldable pub initializer_at : List Token → Option (Option ℕ × List Token)
+initializer_at [] = None
+initializer_at (token ∷ rest) =
+    if is_mark Semicolon token.kind then Some (None, rest)
+    else if is_mark Assign token.kind then valued_at rest
+    else None
+
+-- the kind of what stands for the name of an object, its initializer, and what comes behind
+unfoldable pub object_at : List Token → Option (TokenKind × Option ℕ × List Token)
 object_at [] = None
 object_at (a ∷ []) = None
-object_at (a ∷ b ∷ []) = None
-object_at (a ∷ b ∷ c ∷ rest) = if is_keyword Int a.kind && is_mark Semicolon c.kind then Some (b.kind, rest) else None
+object_at (a ∷ b ∷ rest) = if is_keyword Int a.kind then (initializer_at rest >>= (λ i. Some (b.kind, i.0, i.1))) else None
 
--- the objects that are declared at the front, and what comes behind
-unfoldable pub objects_at : List (List ℕ) → Declared → List Token → Option (Declared × List Token)
-objects_at names before [] = Some (before, [])
-objects_at names before (a ∷ []) = Some (before, a ∷ [])
-objects_at names before (a ∷ b ∷ []) = Some (before, a ∷ b ∷ [])
-objects_at names before (a ∷ b ∷ c ∷ rest) =
-    if is_keyword Int a.kind && is_mark Semicolon c.kind then declare names before b.kind >>= (λ after. objects_at names after rest)
-    else Some (before, a ∷ b ∷ c ∷ rest)
+-- the objects that are declared at the front, at most so many, and what comes behind
+abbrev pub more_objects : Declared → List Token → (TokenKind × Option ℕ × List Token → Option (Declared × List Token)) → Option (TokenKind × Option ℕ × List Token) → Option (Declared × List Token)
+more_objects before tokens next None = Some (before, tokens)
+more_objects before tokens next (Some object) = next object
+
+unfoldable pub objects_at : ℕ → List (List ℕ) → Declared → List Token → Option (Declared × List Token)
+objects_at zero names before tokens = Some (before, tokens)
+objects_at (suc n) names before tokens =
+    more_objects before tokens (λ object. declare names before object.0 object.1 >>= (λ after. objects_at n names after object.2)) (object_at tokens)
 
 -- ---- the head of `main`
 
@@ -145,12 +172,35 @@ unfoldable pub operand_at : List (Option ℕ) → List Token → Option (ℕ × 
 operand_at cells [] = None
 operand_at cells (token ∷ rest) = operand_of cells token.line rest token.kind
 
+-- a sum so far and the operand behind a `+`
+unfoldable pub next_at : List (Option ℕ) → ℕ → Expression → List Token → Option (Expression × List Token)
+next_at cells line so_far tokens = do
+  operand ← operand_at cells tokens
+  Some (binary line Add widths.Int so_far operand.1, operand.2)
+
+-- a sum so far with all the operands that are added to it, at most so many
+abbrev pub more_operands : Expression → List Token → (List Token → Option (Expression × List Token)) → Option (List Token) → Option (Expression × List Token)
+more_operands so_far tokens next None = Some (so_far, tokens)
+more_operands so_far tokens next (Some rest) = next rest
+
+unfoldable pub added_at : ℕ → List (Option ℕ) → ℕ → Expression → List Token → Option (Expression × List Token)
+added_at zero cells line so_far tokens = more_operands so_far tokens (λ rest. None) (mark_at Plus tokens)
+added_at (suc n) cells line so_far tokens =
+    more_operands so_far tokens (λ rest. next_at cells line so_far rest >>= (λ next. added_at n cells line next.0 next.1)) (mark_at Plus tokens)
+
+-- a sum's line and expression: at most 100 operands
+unfoldable pub sum_at : List (Option ℕ) → List Token → Option (ℕ × Expression × List Token)
+sum_at cells tokens = do
+  first ← operand_at cells tokens
+  sum ← added_at 99 cells first.0 first.1 first.2
+  Some (first.0, sum.0, sum.1)
+
 -- an assignment behind its target
 unfoldable pub assignment_at : List (Option ℕ) → ℕ → ℕ → List Token → Option (Statement × List Token)
 assignment_at cells line number tokens = do
   cell ← cell_at cells number
   a ← mark_at Assign tokens
-  value ← operand_at cells a
+  value ← sum_at cells a
   rest ← mark_at Semicolon value.2
   Some (eval (assign line (Cell cell) value.1), rest)
 
@@ -158,9 +208,9 @@ assignment_at cells line number tokens = do
 unfoldable pub assertion_at : List (Option ℕ) → ℕ → List Token → Option (Statement × List Token)
 assertion_at cells line tokens = do
   a ← mark_at OpenParen tokens
-  left ← operand_at cells a
+  left ← sum_at cells a
   b ← mark_at Equal left.2
-  right ← operand_at cells b
+  right ← sum_at cells b
   c ← mark_at CloseParen right.2
   rest ← mark_at Semicolon c
   Some (eval (call line Assert (binary left.0 Eq widths.Int left.1 right.1)), rest)
@@ -187,7 +237,7 @@ ReadStatements names cells (statement ∷ statements) tokens =
 -- what stands in front of the statements
 unfoldable pub front_at : List (List ℕ) → List Token → Option (Declared × List Token)
 front_at names tokens = do
-  objects ← objects_at names (nothing_declared (length names)) tokens
+  objects ← objects_at (length tokens) names (nothing_declared (length names)) tokens
   body ← head_at names objects.1
   Some (objects.0, body)
 
@@ -198,4 +248,4 @@ pub record IsRead (names : List (List ℕ)) (tokens : List Token) (p : Program) 
   pub statements : List Statement
   pub front : front_at names tokens ≡ Some (declared, body)
   pub read : ReadStatements names declared.cells statements body
-  pub meaning : p ≡ record { cells = replicate declared.count 0; main = statements }
+  pub meaning : p ≡ record { cells = declared.values; main = statements }

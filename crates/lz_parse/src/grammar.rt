@@ -1,4 +1,4 @@
-ghost use Rattle.std.specs.Prelude.{◌≡◌, ℕ, ◌≤◌, length, replicate, IfOk, IsErrOf};
+ghost use Rattle.std.specs.Prelude.{◌≡◌, ℕ, ◌≤◌, length, IfOk, IsErrOf};
 ghost use Rattle.lz_parse.specs.declared.error.ParseError.TheVariants.{NotTheForm};
 ghost use Rattle.lz_tree.specs.Scopes.{Program, program};
 ghost use Rattle.lz_parse.specs.Reading.{Gives};
@@ -8,7 +8,7 @@ use crate::error::ParseError;
 use crate::objects::{Objects, declarations};
 use crate::reader::{after_keyword, after_main, after_mark};
 use crate::statement::statements;
-use lz_base::{Memory, Name, Values};
+use lz_base::Name;
 use lz_tree::{Keyword, Punct, Scoped, Token};
 use std::alloc::Global;
 
@@ -40,17 +40,6 @@ fn front<'a>(
     Ok((objects, body))
 }
 
-/// The value 0, so many times.
-fn zeros(alloc: Global, count: u32) -> Result<Values, Memory>
-    ensures { IfOk result (λ values. values ≡ replicate count 0) }
-{
-    let mut values = Values::new(alloc);
-    for _ in 0..count {
-        values.push(0)?;
-    }
-    Ok(values)
-}
-
 /// The program of the tokens of a file of the first form: its declarations, `main` and nothing more.
 pub fn read(alloc: Global, names: &[Name], tokens: &[Token]) -> Result<Scoped, ParseError>
     requires { length tokens.now ≤ 1048576 }
@@ -59,6 +48,6 @@ pub fn read(alloc: Global, names: &[Name], tokens: &[Token]) -> Result<Scoped, P
 {
     let (objects, body) = front(alloc, names, tokens)?;
     let main = statements(alloc, names, &objects, body)?;
-    let cells = zeros(alloc, objects.count())?;
+    let cells = objects.into_values();
     Ok(Scoped { cells, main })
 }

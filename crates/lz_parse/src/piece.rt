@@ -79,7 +79,7 @@ fn number(bytes: &[u8]) -> Option<(Piece<'_>, &[u8])>
     Some((Piece::Number { digits }, rest))
 }
 
-#[tactic(auto, unfolding(crate::specs::Cutting::cut_mark, crate::specs::Cutting::cut_equal))]
+#[tactic(auto, unfolding(crate::specs::Cutting::cut_mark, crate::specs::Cutting::cut_equal, crate::specs::Cutting::cut_plus))]
 fn mark(bytes: &[u8]) -> Option<(Piece<'_>, &[u8])>
     ensures { option_map (λ x. (piece_of x.0, x.1.now)) result ≡ cut_mark bytes.now }
 {
@@ -91,6 +91,9 @@ fn mark(bytes: &[u8]) -> Option<(Piece<'_>, &[u8])>
         [b';', rest @ ..] => (Punct::Semicolon, rest),
         [b'=', b'=', rest @ ..] => (Punct::Equal, rest),
         [b'=', rest @ ..] => (Punct::Assign, rest),
+        [b'+', b'+', rest @ ..] => (Punct::Increment, rest),
+        [b'+', b'=', rest @ ..] => (Punct::AddAssign, rest),
+        [b'+', rest @ ..] => (Punct::Plus, rest),
         _ => return None,
     };
     Some((Piece::Mark { punct }, rest))

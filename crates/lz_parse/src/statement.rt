@@ -1,8 +1,9 @@
-ghost use Rattle.std.specs.Prelude.{◌≡◌, List, map, IfOk, IsErrOf};
+ghost use Rattle.std.specs.Prelude.{◌≡◌, List, map, IfOk, IsErrOf, option_map};
 ghost use Rattle.lz_parse.specs.declared.error.ParseError.TheVariants.{NotTheForm};
+ghost use Rattle.lz_tree.specs.declared.token.Punct.TheVariants.{Plus};
 ghost use Rattle.lz_tree.specs.Scopes.{Statement, expression, statement};
 ghost use Rattle.lz_parse.specs.Reading.{Gives};
-ghost use Rattle.lz_parse.specs.Grammar.{operand_at, assignment_at, assertion_at, statement_at, is_end, ReadStatements};
+ghost use Rattle.lz_parse.specs.Grammar.{mark_at, operand_at, next_at, sum_at, assignment_at, assertion_at, statement_at, is_end, ReadStatements};
 
 use crate::error::ParseError;
 use crate::objects::Objects;
@@ -36,7 +37,62 @@ fn operand<'a>(
     }
 }
 
-/// An assignment behind its target, `= operand ;` (C99 6.5.16.1).
+/// What stands behind a `+`, if one is in front.
+#[tactic(auto, unfolding(crate::specs::Grammar::mark_at))]
+fn behind_plus(tokens: &[Token]) -> Option<&[Token]>
+    ensures { option_map (λ rest. rest.now) result ≡ mark_at Plus tokens.now }
+{
+    match tokens {
+        [token, rest @ ..] if is_mark(token.kind, Punct::Plus) => Some(rest),
+        _ => None,
+    }
+}
+
+/// A sum so far and the operand behind a `+`, and what comes behind.
+#[tactic(auto, unfolding(crate::specs::Grammar::next_at))]
+fn with_next<'a>(
+    alloc: Global,
+    objects: &Objects,
+    line: u32,
+    so_far: ScopedExpr,
+    tokens: &'a [Token],
+) -> Result<(ScopedExpr, &'a [Token]), ParseError>
+    ensures { Gives (λ x. (expression x.0, x.1.now)) result (next_at objects.now.cells.items line (expression so_far) tokens.now) }
+{
+    let (_, operand, rest) = operand(objects, tokens)?;
+    let sum = ScopedExpr::Binary {
+        line,
+        op: Binary::Add,
+        kind: IntType::Int,
+        left: Box::new(alloc, so_far)?,
+        right: Box::new(alloc, operand)?,
+    };
+    Ok((sum, rest))
+}
+
+/// A sum of at most 100 operands, grouped to the left (C99 6.5.6), with its line, and what comes behind.
+fn sum<'a>(
+    alloc: Global,
+    objects: &Objects,
+    tokens: &'a [Token],
+) -> Result<(u32, ScopedExpr, &'a [Token]), ParseError>
+    ensures { Gives (λ x. (x.0, expression x.1, x.2.now)) result (sum_at objects.now.cells.items tokens.now) }
+{
+    let (line, mut so_far, mut rest) = operand(objects, tokens)?;
+    let mut left: u32 = 99;
+    while let Some(after) = behind_plus(rest) {
+        if left == 0 {
+            return Err(ParseError::NotTheForm);
+        }
+        let (next, after) = with_next(alloc, objects, line, so_far, after)?;
+        so_far = next;
+        rest = after;
+        left -= 1;
+    }
+    Ok((line, so_far, rest))
+}
+
+/// An assignment behind its target, `= sum ;` (C99 6.5.16.1).
 #[tactic(auto, unfolding(crate::specs::Grammar::assignment_at))]
 fn assignment<'a>(
     alloc: Global,
@@ -51,7 +107,7 @@ fn assignment<'a>(
         return Err(ParseError::NotTheForm);
     };
     let rest = after_mark(tokens, Punct::Assign)?;
-    let (_, value, rest) = operand(objects, rest)?;
+    let (_, value, rest) = sum(alloc, objects, rest)?;
     let rest = after_mark(rest, Punct::Semicolon)?;
     let value = Box::new(alloc, value)?;
     let object = Object::Cell { first };
@@ -63,7 +119,7 @@ fn assignment<'a>(
     Ok((ScopedStmt::Eval { value }, rest))
 }
 
-/// An assertion behind `assert`, `( operand == operand ) ;` (C99 7.2.1.1).
+/// An assertion behind `assert`, `( sum == sum ) ;` (C99 7.2.1.1).
 #[tactic(auto, unfolding(crate::specs::Grammar::assertion_at))]
 fn assertion<'a>(
     alloc: Global,
@@ -74,9 +130,9 @@ fn assertion<'a>(
     ensures { Gives (λ x. (statement x.0, x.1.now)) result (assertion_at objects.now.cells.items line tokens.now) }
 {
     let rest = after_mark(tokens, Punct::OpenParen)?;
-    let (left_line, left, rest) = operand(objects, rest)?;
+    let (left_line, left, rest) = sum(alloc, objects, rest)?;
     let rest = after_mark(rest, Punct::Equal)?;
-    let (_, right, rest) = operand(objects, rest)?;
+    let (_, right, rest) = sum(alloc, objects, rest)?;
     let rest = after_mark(rest, Punct::CloseParen)?;
     let rest = after_mark(rest, Punct::Semicolon)?;
     let equal = ScopedExpr::Binary {
