@@ -73,15 +73,6 @@ sum_same before after x y lexemes a b m r u h k other p q =
     let make : Operand → List Operand → Sum = λ o os. record { first = o; added = os } in
     (ap (λ (o : Operand). make o x.added) first ∙ ap (λ (os : List Operand). make y.first os) rest.0, end.1)
 
-no_semicolon : Plus ≡ Semicolon → ⊥
-no_semicolon e = cc
-
-no_equal : Plus ≡ Equal → ⊥
-no_equal e = cc
-
-no_paren : Plus ≡ CloseParen → ⊥
-no_paren e = cc
-
 statement_same : (before after : List (List ℕ)) (s t : FormStatement) (lexemes r u : List Lexeme) → BeginsWithStatement s lexemes r → BeginsWithStatement t lexemes u
     → IsFormStatementOf before s → IsFormStatementOf after t → (s ≡ t) × (r ≡ u)
 statement_same before after (assignment k x v) (assignment l y w) lexemes r u b c p q =
@@ -90,7 +81,7 @@ statement_same before after (assignment k x v) (assignment l y w) lexemes r u b 
     let first = lexeme_is k l (word x) (word y) e0.0 in
     let line : k ≡ l = first.0 in
     let target : word x ≡ word y = first.1 in
-    let sum = sum_same before after v w c.2 b.1 c.1 Semicolon r u (subst (λ (ls : List Lexeme). BeginsWithSum v ls (lexeme b.1 (mark Semicolon) ∷ r)) e1.1 b.4) c.4 no_semicolon p.1 q.1 in
+    let sum = sum_same before after v w c.2 b.1 c.1 Semicolon r u (subst (λ (ls : List Lexeme). BeginsWithSum v ls (lexeme b.1 (mark Semicolon) ∷ r)) e1.1 b.4) c.4 (λ h. cc) p.1 q.1 in
     let value : v ≡ w = sum.0 in
     (cc, sum.1)
 statement_same before after (assignment k x v) (assertion l left right) lexemes r u b c p q =
@@ -107,9 +98,9 @@ statement_same before after (assertion k left right) (assertion l left' right') 
     let e0 = cons_is _ _ _ _ (sym b.6 ∙ c.6) in
     let e1 = cons_is _ _ _ _ e0.1 in
     let line : k ≡ l = ap (λ (x : Lexeme). x.line) e0.0 in
-    let a = sum_same before after left left' c.4 b.1 c.1 Equal b.5 c.5 (subst (λ (ls : List Lexeme). BeginsWithSum left ls (lexeme b.1 (mark Equal) ∷ b.5)) e1.1 b.7) c.7 no_equal p.0 q.0 in
+    let a = sum_same before after left left' c.4 b.1 c.1 Equal b.5 c.5 (subst (λ (ls : List Lexeme). BeginsWithSum left ls (lexeme b.1 (mark Equal) ∷ b.5)) e1.1 b.7) c.7 (λ h. cc) p.0 q.0 in
     let d = sum_same before after right right' c.5 b.2 c.2 CloseParen (lexeme b.3 (mark Semicolon) ∷ r) (lexeme c.3 (mark Semicolon) ∷ u)
-    (subst (λ (ls : List Lexeme). BeginsWithSum right ls (lexeme b.2 (mark CloseParen) ∷ lexeme b.3 (mark Semicolon) ∷ r)) a.1 b.8) c.8 no_paren p.1 q.1 in
+    (subst (λ (ls : List Lexeme). BeginsWithSum right ls (lexeme b.2 (mark CloseParen) ∷ lexeme b.3 (mark Semicolon) ∷ r)) a.1 b.8) c.8 (λ h. cc) p.1 q.1 in
     let first : left ≡ left' = a.0 in
     let second : right ≡ right' = d.0 in
     let end = cons_is _ _ _ _ d.1 in

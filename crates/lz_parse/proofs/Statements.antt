@@ -9,7 +9,7 @@ use Rattle.lz_base.specs.declared.word.IntType.TheVariants.{Int}
 use Rattle.lz_tree.specs.declared.token.Token.{Token}
 use Rattle.lz_tree.specs.declared.token.Keyword.{Keyword}
 use Rattle.lz_tree.specs.declared.token.Keyword.TheVariants as keys
-use Rattle.lz_tree.specs.declared.token.Punct.TheVariants.{OpenParen, CloseParen, CloseBrace, Semicolon, Assign, Equal, Plus}
+use Rattle.lz_tree.specs.declared.token.Punct.TheVariants.{OpenParen, CloseParen, CloseBrace, Semicolon, Assign, Equal}
 use Rattle.lz_tree.specs.declared.scoped.KnownName.TheVariants.{Assert}
 use Rattle.lz_tree.specs.declared.scoped.Object.TheVariants.{Cell}
 use Rattle.lz_tree.specs.Tokens.{Piece, word, mark, Lexeme}
@@ -69,22 +69,13 @@ module _ (names objects : List (List ℕ)) (cells : List (Option ℕ)) (c : IsCo
       } in
       subst (λ (y : Statement × List Token). IsAssigned line n tokens y) (some_is (eval (assign line (Cell cell.0) v.0.1), r.0) x r.2) made
 
-  no_semicolon : Plus ≡ Semicolon → ⊥
-  no_semicolon e = cc
-
-  no_equal : Plus ≡ Equal → ⊥
-  no_equal e = cc
-
-  no_paren : Plus ≡ CloseParen → ⊥
-  no_paren e = cc
-
   assignment_back : (line n : ℕ) (target : List ℕ) (value : Sum) (a b : ℕ) (tokens : List Token) (behind after : List Lexeme) → n < length names → name_at names n ≡ target → is_among objects target ≡ true → IsSumOf objects value
       → IsSpelled names tokens (lexeme a (mark Assign) ∷ behind) → BeginsWithSum value behind (lexeme b (mark Semicolon) ∷ after)
       → (rest : List Token) × (assignment_at cells line n tokens ≡ Some (eval (assign line (Cell (number_in objects target)) (sum_meant objects value)), rest)) × IsSpelled names rest after
   unfolding assignment_at
   assignment_back line n target value a b tokens behind after lt is h of s begins =
       let m = mark_back names Assign tokens a behind s in
-      let v = sum_back names objects cells c m.0 value behind b Semicolon after m.2 begins of no_semicolon in
+      let v = sum_back names objects cells c m.0 value behind b Semicolon after m.2 begins of (λ h. cc) in
       let r = mark_back names Semicolon v.0 b after v.2 in
       let cell = cell_back names objects cells n target c lt is h in
       (r.0, rw (cell, m.1, v.1, r.1) refl, r.2)
@@ -152,9 +143,9 @@ module _ (names objects : List (List ℕ)) (cells : List (Option ℕ)) (c : IsCo
   unfolding assertion_at
   assertion_back line left right p q r s tokens behind middle after of_left of_right sp begins_left begins_right =
       let a = mark_back names OpenParen tokens p behind sp in
-      let l = sum_back names objects cells c a.0 left behind q Equal middle a.2 begins_left of_left no_equal in
+      let l = sum_back names objects cells c a.0 left behind q Equal middle a.2 begins_left of_left (λ h. cc) in
       let b = mark_back names Equal l.0 q middle l.2 in
-      let k = sum_back names objects cells c b.0 right middle r CloseParen (lexeme s (mark Semicolon) ∷ after) b.2 begins_right of_right no_paren in
+      let k = sum_back names objects cells c b.0 right middle r CloseParen (lexeme s (mark Semicolon) ∷ after) b.2 begins_right of_right (λ h. cc) in
       let d = mark_back names CloseParen k.0 r (lexeme s (mark Semicolon) ∷ after) k.2 in
       let f = mark_back names Semicolon d.0 s after d.2 in
       (f.0, rw (a.1, l.1, b.1, k.1, d.1, f.1) refl, f.2)

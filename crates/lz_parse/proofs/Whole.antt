@@ -207,9 +207,6 @@ initializer_there names (t ∷ rest) x s e =
           }
     ]
 
-no_assign : Semicolon ≡ Assign → ⊥
-no_assign e = cc
-
 initializer_back : (names : List (List ℕ)) (tokens : List Token) (initializer : Option ℕ) (lexemes after : List Lexeme) → IsSpelled names tokens lexemes → BeginsWithInitializer initializer lexemes after → IfSome initializer IsConstant
     → (rest : List Token) × (initializer_at tokens ≡ Some (initializer, rest)) × IsSpelled names rest after
 unfolding initializer_at
@@ -225,7 +222,7 @@ initializer_back names tokens (Some value) lexemes after s h fits =
     let piece : kind_piece names t.0.kind ≡ mark Assign = ap (λ (l : Lexeme). l.piece) t.3 in
     let v = valued_back names t.1 value h.1 h.2 after t.5 fits in (
       v.0,
-      ap initializer_at t.2 ∙ cond-false (is_mark Semicolon t.0.kind) _ _ (other_mark names Semicolon Assign t.0.kind piece no_assign)
+      ap initializer_at t.2 ∙ cond-false (is_mark Semicolon t.0.kind) _ _ (other_mark names Semicolon Assign t.0.kind piece (λ h. cc))
           ∙ cond-true (is_mark Assign t.0.kind) _ _ (piece_mark names Assign t.0.kind piece) ∙ v.1,
       v.2,
     )

@@ -130,11 +130,12 @@ object_at [] = None
 object_at (a ∷ []) = None
 object_at (a ∷ b ∷ rest) = if is_keyword Int a.kind then (initializer_at rest >>= (λ i. Some (b.kind, i.0, i.1))) else None
 
--- the objects that are declared at the front, at most so many, and what comes behind
+-- reading goes on behind one more object, or ends
 abbrev pub more_objects : Declared → List Token → (TokenKind × Option ℕ × List Token → Option (Declared × List Token)) → Option (TokenKind × Option ℕ × List Token) → Option (Declared × List Token)
 more_objects before tokens next None = Some (before, tokens)
 more_objects before tokens next (Some object) = next object
 
+-- the objects that are declared at the front, at most so many, and what comes behind
 unfoldable pub objects_at : ℕ → List (List ℕ) → Declared → List Token → Option (Declared × List Token)
 objects_at zero names before tokens = Some (before, tokens)
 objects_at (suc n) names before tokens =
@@ -178,11 +179,12 @@ next_at cells line so_far tokens = do
   operand ← operand_at cells tokens
   Some (binary line Add widths.Int so_far operand.1, operand.2)
 
--- a sum so far with all the operands that are added to it, at most so many
+-- reading goes on behind one more `+`, or ends
 abbrev pub more_operands : Expression → List Token → (List Token → Option (Expression × List Token)) → Option (List Token) → Option (Expression × List Token)
 more_operands so_far tokens next None = Some (so_far, tokens)
 more_operands so_far tokens next (Some rest) = next rest
 
+-- a sum so far with the operands that are added to it: more than so many are none of the form
 unfoldable pub added_at : ℕ → List (Option ℕ) → ℕ → Expression → List Token → Option (Expression × List Token)
 added_at zero cells line so_far tokens = more_operands so_far tokens (λ rest. None) (mark_at Plus tokens)
 added_at (suc n) cells line so_far tokens =
