@@ -1,3 +1,4 @@
+// Headers, comments and return are not built yet: the answer is NOTBUILT line 0.
 #include <assert.h>
 
 int main(void)
