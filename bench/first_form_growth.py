@@ -12,14 +12,14 @@ import time
 TOP = os.path.dirname(os.path.dirname(os.path.abspath(__file__)))
 PROGRAM = os.path.join(TOP, "crates", "lazycheck", "out", "lazycheck")
 SIZES = [1000, 2000, 4000, 8000, 16000, 30000]
-RUNS = 20
+RUNS = 40
 
 
 def source(size):
     """A file with this many declarations and as many statements, the last of which breaks."""
-    lines = [f"int v{i} = {i};" for i in range(size)]
+    lines = [f"int v{i};" for i in range(size)]
     lines.append("int main(void) {")
-    lines += [f"v{i} = v{(7 * i) % size} + {i};" for i in range(size - 1)]
+    lines += [f"v{i} = v{(7 * i) % size};" for i in range(size - 1)]
     lines.append("assert(v0 == 1);")
     lines.append("}")
     return "\n".join(lines) + "\n"
