@@ -2,8 +2,4 @@
 //! they spell.
 #![tactic(auto)]
 
-mod scoped;
-mod token;
-
-pub use scoped::{KnownName, Object, Scoped, ScopedExpr, ScopedStmt, ScopedStmts};
-pub use token::{Keyword, Names, Punct, Token, TokenKind, TokenList, Tokens};
+pub mod first_form;
