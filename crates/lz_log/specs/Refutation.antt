@@ -1,4 +1,4 @@
--- When a step of a log follows by its hints, and when a log refutes its formula.
+-- Trusted: when a step of a log follows by its hints, and when a log refutes its formula.
 use Rattle.std.specs.Prelude.{◌≡◌, ℕ, suc, zero, ◌<◌, ◌⊎◌, List, [], ◌∷◌, ◌++◌, map, slice_get, Some, ⊤}
 use Rattle.std.specs.List.{All, Any, Contains}
 use Rattle.lz_cnf.specs.declared.clause.Lit.{Lit}
