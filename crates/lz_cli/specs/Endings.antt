@@ -1,4 +1,4 @@
--- When an ending is lawful, case by case, and what the command answers.
+-- Trusted: when an ending is lawful, case by case, and what the command answers.
 use Rattle.std.specs.Prelude.{◌≡◌, ℕ, ◌≤◌, ◌⊎◌, ◌↔◌, List, length, Option}
 use Rattle.lz_base.specs.declared.word.BreakKind.{BreakKind}
 use Rattle.lz_outside.specs.Faults.{Rose}

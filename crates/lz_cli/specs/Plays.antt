@@ -1,4 +1,4 @@
--- The course of code that has no choice: what thread 0 does from a state in which no other thread is made.
+-- Inner: the course of code that has no choice, from a state in which thread 0 alone is made.
 -- Where the code goes, no trace of it breaks a check, and each trace of it that is done is this one or gets
 -- stuck; where it breaks, this course shows it.
 use Rattle.std.specs.Prelude.{◌≡◌, ◌≢◌, ℕ, false, ◌<◌, List, [], ◌++◌, map, ⊤}

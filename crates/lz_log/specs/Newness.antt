@@ -1,4 +1,4 @@
--- Trusted: When a clause is new: unit propagation over the clauses before it could not have given it.
+-- Inner: When a clause is new: unit propagation over the clauses before it could not have given it.
 use Rattle.std.specs.Prelude.{◌≡◌, ◌⊎◌, List}
 use Rattle.std.specs.List.{All, Contains}
 use Rattle.lz_cnf.specs.declared.clause.Lit.{Lit}

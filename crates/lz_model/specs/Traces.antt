@@ -1,5 +1,5 @@
--- Traces: the lists of actions that code may do, in the order of C99 6.5 and 6.8 with operands from left
--- to right. A trace knows nothing of the shared state: a read may find any word.
+-- Trusted: traces, the lists of actions that code may do, in the order of C99 6.5 and 6.8 with operands from left to right.
+-- A trace knows nothing of the shared state: a read may find any word.
 use Rattle.std.specs.Prelude.{◌≡◌, ℕ, ◌<◌, ◌⊎◌, List, [], ◌∷◌, ◌++◌, zero, suc}
 use Rattle.lz_base.specs.Words.{binary_value}
 use Rattle.lz_base.specs.declared.word.BreakKind.{BreakKind}

@@ -1,4 +1,4 @@
--- When a program is violated within its bounds, and when a run follows a schedule.
+-- Trusted: when a program is violated within its bounds, and when a run follows a schedule.
 use Rattle.std.specs.Prelude.{◌≡◌, ℕ, ◌≤◌, List, [], ◌∷◌, map, Option, Some, None}
 use Rattle.std.specs.List.{flat_map}
 use Rattle.lz_base.specs.declared.word.BreakKind.{BreakKind}

@@ -1,4 +1,4 @@
--- The piece at the front of bytes, as a function.
+-- Inner: the piece at the front of bytes, as a function.
 use Rattle.std.specs.Prelude.{ℕ, ◌==◌, Bool, false, List, [], ◌∷◌, take, drop, Option, Some, None, if◌then◌else◌}
 use Rattle.std.specs.List.{prefix_len}
 use Rattle.std.specs.Char.{is_ascii_digit}

@@ -1,5 +1,5 @@
--- Reading the tokens of the first form from the left. Names are numbers here: the texts are looked at
--- where a name is declared, and where `main` and `assert` stand.
+-- Inner: reading the tokens of the first form from the left.
+-- Names are numbers here: the texts are looked at where a name is declared, and where `main` and `assert` stand.
 use Rattle.std.specs.Prelude.{◌≡◌, ℕ, ◌==◌, Bool, true, false, List, [], ◌∷◌, ◌++◌, zero, suc, length, codes, replicate, Option, Some, None, is_some, unwrap_or, nat_lt, slice_set, slice_index_or, if◌then◌else◌}
 use Rattle.std.specs.Str.{bytes_eq}
 use Rattle.lz_base.specs.declared.operator.Binary.TheVariants.{Add, Eq}

@@ -1,4 +1,4 @@
--- Tokens as the lexemes that they stand for, and what the bytes from some place on leave.
+-- Inner: tokens as the lexemes that they stand for, and what the bytes from some place on leave.
 use Rattle.std.specs.Prelude.{◌≡◌, ℕ, ◌+◌, ◌<◌, ◌≤◌, ⊤, List, [], ◌∷◌, ◌++◌, length, map, codes, Option, Some, None, slice_index_or}
 use Rattle.std.specs.List.{AllByRecursion}
 use Rattle.std.specs.Borrow.{Bor}

@@ -1,5 +1,5 @@
--- The first form of a program: declarations of `int` objects, then one `main` of assignments and
--- assertions over sums. How its tokens spell it, which names it may have, and which program it means.
+-- Trusted: how tokens spell a program of the first form, which names it may have, and which program it means.
+-- The form has declarations of `int` objects, then one `main` of assignments and assertions over sums.
 use Rattle.std.specs.Prelude.{◌≡◌, ℕ, ◌+◌, ◌≤◌, Bool, true, false, ◌||◌, List, [], ◌∷◌, ◌++◌, length, map, codes, if◌then◌else◌, Option, Some, None, IfSome, unwrap_or, ⊤}
 use Rattle.std.specs.List.{list_any, AllByRecursion}
 use Rattle.std.specs.Str.{bytes_eq}

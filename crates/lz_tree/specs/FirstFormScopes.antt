@@ -1,5 +1,5 @@
--- The scoped program as definitions read it: its trees without pointers and capacities. Each name in it
--- is replaced by the object that it means.
+-- Trusted: the scoped program as definitions read it, whose trees have no pointers and no capacities.
+-- Each name in it is replaced by the object that it means.
 use Rattle.std.specs.Prelude.{ℕ, ◌<◌, List, length, map}
 use Rattle.std.specs.List.{AllByRecursion}
 use Rattle.lz_base.specs.declared.operator.Binary.{Binary}

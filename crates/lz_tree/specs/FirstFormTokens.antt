@@ -1,5 +1,5 @@
--- Tokens: how the bytes of a file are cut into pieces, each the longest that can stand where it begins
--- (C99 6.4), and the lexemes that the pieces leave.
+-- Trusted: tokens, which are cut from the bytes of a file, each the longest that can stand where it begins (C99 6.4).
+-- Of the pieces that are not blank, the lexemes are left.
 use Rattle.std.specs.Prelude.{◌≡◌, ℕ, ◌+◌, ◌≤◌, ◌==◌, Bool, false, ◌||◌, IsTrue, ⊤, List, [], ◌∷◌, ◌++◌, length, codes, if◌then◌else◌}
 use Rattle.std.specs.Char.{is_ascii_digit, is_ascii_alphabetic}
 use Rattle.std.specs.List.{list_all}
