@@ -1,10 +1,5 @@
-<<<<<<< HEAD
 -- Trusted: When a step of a log follows by its hints, and when a log refutes its formula.
 use Rattle.std.specs.Prelude.{◌≡◌, ℕ, ◌<◌, ◌⊎◌, List, [], ◌∷◌, ◌++◌, map, ⊤}
-=======
--- Trusted: when a step of a log follows by its hints, and when a log refutes its formula.
-use Rattle.std.specs.Prelude.{◌≡◌, ℕ, suc, zero, ◌<◌, ◌⊎◌, List, [], ◌∷◌, ◌++◌, map, slice_get, Some, ⊤}
->>>>>>> 2c19df2a80b01e8a53bb24e2d9a9cd314660006e
 use Rattle.std.specs.List.{All, Any, Contains}
 use Rattle.lz_cnf.specs.declared.clause.Lit.{Lit}
 use Rattle.lz_cnf.specs.declared.clause.Cnf.{Cnf}
