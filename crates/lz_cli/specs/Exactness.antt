@@ -1,9 +1,9 @@
--- Which endings are left where the folder tells the named file and no read failed. With the cases of a lawful
--- ending, each ending but want of memory comes exactly where its cause stands.
+-- Inner: which endings are left where the folder tells the named file and no read failed.
+-- With the cases of a lawful ending, each ending but want of memory comes exactly where its cause stands.
 use Rattle.std.specs.Prelude.{◌≡◌, ℕ, List, ⊤}
 use Rattle.lz_outside.specs.Faults.{Rose}
 use Rattle.lz_outside.specs.Files.{Tells}
-use Rattle.lz_tree.specs.Scopes.{Program}
+use Rattle.lz_tree.specs.FirstFormScopes.{Program}
 use Rattle.lz_model.specs.Violation.{Violated}
 use Rattle.lz_cli.specs.declared.ending.Ending.{Ending}
 use Rattle.lz_cli.specs.declared.ending.Ending.TheVariants.{Successful, Failed, NotBuilt, FileTooLong, ReadFault, OutOfMemory}

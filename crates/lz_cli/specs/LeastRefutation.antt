@@ -1,4 +1,4 @@
--- The formula of one variable that is to be true and to be false, and the log of the one step that refutes it.
+-- Inner: the formula of one variable that is to be true and to be false, and the log of the one step that refutes it.
 use Rattle.std.specs.Prelude.{[], ◌∷◌}
 use Rattle.lz_cnf.specs.declared.clause.Lit.{Lit}
 use Rattle.lz_cnf.specs.declared.clause.Cnf.{Cnf}

@@ -1,4 +1,4 @@
--- The course of code that has no choice: what thread 0 does from a state in which no other thread is made.
+-- Inner: the course of code that has no choice, from a state in which thread 0 alone is made.
 -- Where the code goes, no trace of it breaks a check, and each trace of it that is done is this one or gets
 -- stuck; where it breaks, this course shows it.
 use Rattle.std.specs.Prelude.{◌≡◌, ◌≢◌, ℕ, false, ◌<◌, List, [], ◌++◌, map, ⊤}
@@ -6,9 +6,9 @@ use Rattle.std.specs.List.{flat_map}
 use Rattle.lz_base.specs.declared.word.BreakKind.{BreakKind}
 use Rattle.lz_model.specs.declared.action.Event.{Event}
 use Rattle.lz_model.specs.declared.schedule.Step.{Step}
-use Rattle.lz_tree.specs.declared.scoped.Object.{Object}
-use Rattle.lz_tree.specs.declared.scoped.Object.TheVariants.{Cell}
-use Rattle.lz_tree.specs.Scopes.{Expression, Statement, Program}
+use Rattle.lz_tree.specs.declared.first_form.scoped.Object.{Object}
+use Rattle.lz_tree.specs.declared.first_form.scoped.Object.TheVariants.{Cell}
+use Rattle.lz_tree.specs.FirstFormScopes.{Expression, Statement, Program}
 use Rattle.lz_model.specs.Traces.{Act, Outcome, done, cut, Behaviour, expression_trace, statements_trace, normal}
 use Rattle.lz_model.specs.SharedState.{State}
 use Rattle.lz_model.specs.Runs.{going, stuck, broken, course}

@@ -1,4 +1,4 @@
--- The report of an ending, to the byte, and its status.
+-- Trusted: the report of an ending, to the byte, and its status.
 use Rattle.std.specs.Prelude.{ℕ, ◌<◌, List, ◌++◌, codes, ⊤}
 use Rattle.std.specs.List.{flat_map}
 use Rattle.std.specs.Fmt.{decimal}

@@ -1,4 +1,4 @@
--- A buffer, as contracts see it.
+-- Inner: a buffer, as contracts see it.
 use Rattle.std.specs.Prelude.{ℕ, List}
 
 -- its bytes, and how many fit in all

@@ -1,4 +1,4 @@
--- What the files of a folder hold, and what a read of a piece gives.
+-- Trusted: what the files of a folder hold, and what a read of a piece gives.
 use Rattle.std.specs.Prelude.{◌≡◌, ◌≢◌, ℕ, ◌+◌, ◌<◌, ◌≤◌, ◌⊎◌, List, [], ◌++◌, length, take, drop, Option, Some, None, ⊤}
 
 -- what the file of each name holds, None where no file has the name

@@ -1,4 +1,4 @@
--- A folder in memory, as contracts see it.
+-- Inner: a folder in memory, as contracts see it.
 use Rattle.std.specs.Prelude.{◌≡◌, ◌≢◌, ℕ, ◌<◌, ◌⊎◌, List, [], ◌∷◌, Option, Some, None, AllPairs, cond, length}
 use Rattle.std.specs.Str.{bytes_eq}
 use Rattle.lz_outside.specs.declared.memory_folder.File.{File}

@@ -1,4 +1,4 @@
--- A sink in memory, as contracts see it.
+-- Inner: a sink in memory, as contracts see it.
 use Rattle.std.specs.Prelude.{ℕ, List}
 
 -- what was written, how many bytes fit in all, the numbers of the calls that fail, how many calls were

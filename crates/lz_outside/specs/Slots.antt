@@ -1,4 +1,4 @@
--- The slots of a folder in memory, and the files in them.
+-- Inner: the slots of a folder in memory, and the files in them.
 use Rattle.std.specs.Prelude.{◌≡◌, ℕ, ◌+◌, ◌≤◌, List, [], ◌∷◌, Option, Some, None, cond, map, take}
 use Rattle.std.specs.Str.{bytes_eq}
 use Rattle.lz_outside.specs.declared.memory_folder.File.{File}

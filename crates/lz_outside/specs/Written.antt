@@ -1,4 +1,4 @@
--- What a sink has gained. A sink tells what was written to it, or tells nothing.
+-- Trusted: what a sink has gained, where it tells what was written to it.
 use Rattle.std.specs.Prelude.{◌≡◌, ℕ, ◌≤◌, List, ◌++◌, length, take, Option, Some, None, ⊤}
 
 -- where the sink told what was written, it tells these bytes more at the end
