@@ -1,10 +1,10 @@
 -- Models as lists of values, and as assignments; what a circuit gives as a formula.
-use Rattle.std.proofs.Common.{◌≡◌, ℕ, zero, suc, ◌+◌, ◌*◌, ◌<◌, ◌≤◌, Bool, true, false, not, ◌||◌, cond, eqb, List, [], ◌∷◌, ◌++◌, length, get_or, Some, slice_get, refl, sym, ◌∙◌, ap, subst, arith}
+use Rattle.std.proofs.Common.{◌≡◌, ℕ, zero, suc, ◌<◌, Bool, true, false, not, ◌||◌, cond, List, [], ◌∷◌, length, get_or, Some, slice_get, refl, sym, ◌∙◌, ap, subst, arith}
 use Rattle.std.specs.List.{All, Any}
 use Rattle.lz_cnf.specs.declared.clause.Lit.{Lit}
 use Rattle.lz_cnf.specs.declared.clause.Cnf.{Cnf}
 use Rattle.lz_cnf.specs.Models.{variable_of, is_negated, IsTrueLit, IsModel}
-use Rattle.lz_gates.specs.Circuits.{Assignment, value, clause_value, Satisfies, IsBelow, AreBelow}
+use Rattle.lz_gates.specs.Circuits.{Assignment, value, clause_value, Satisfies, AreBelow}
 use Rattle.lz_gates.specs.Values.{assigned, listed}
 
 read_value : (values : List Bool) (i : ℕ) (v : Bool) → slice_get values i ≡ Some v → get_or values i false ≡ v

@@ -1,13 +1,10 @@
 -- A gate: one new variable whose clauses hold exactly where it has the gate's value.
-use Rattle.std.proofs.Common.{◌≡◌, ℕ, zero, suc, ◌+◌, ◌-◌, ◌*◌, ◌/◌, ◌%◌, ◌<◌, ◌≤◌, Bool, true, false, not, ◌&&◌, ◌||◌, cond, eqb, List, [], ◌∷◌, ◌++◌, length, get_or, refl, sym, ◌∙◌, ap, subst, arith}
-use Rattle.std.specs.List.{All}
-use Rattle.std.proofs.lemmas.Bool.{eqb-true, eqb-false, false≢true}
-use Rattle.std.proofs.lemmas.List.{append-nil, append_assoc, length-append}
+use Rattle.std.proofs.Common.{◌≡◌, ℕ, ◌+◌, ◌-◌, ◌*◌, ◌/◌, ◌%◌, Bool, true, false, not, cond, eqb, List, ◌++◌, refl, sym, ◌∙◌, ap, arith}
+use Rattle.std.proofs.lemmas.Bool.{eqb-true, eqb-false}
 use Rattle.std.proofs.lemmas.Bool.Decides.{nat_tests}
 use Rattle.lz_cnf.specs.declared.clause.Lit.{Lit}
 use Rattle.lz_cnf.specs.Models.{variable_of, is_negated, negated}
-use Rattle.lz_gates.specs.Circuits.{Circuit, Assignment, value, clause_value, Satisfies, Agree, IsLit, AreBelow, IsCircuit, Extends, Makes, choice, xor}
-use Rattle.lz_gates.proofs.Extending.{agree_refl, value_agrees}
+use Rattle.lz_gates.specs.Circuits.{Circuit, Assignment, value, Satisfies, Agree, AreBelow, Extends}
 
 pub sign_flips : (n : ℕ) (odd : Bool) → eqb (n % 2) 1 ≡ odd → (cond odd (n - 1) (n + 1) / 2 ≡ n / 2) × (eqb (cond odd (n - 1) (n + 1) % 2) 1 ≡ not odd)
 sign_flips n true e =

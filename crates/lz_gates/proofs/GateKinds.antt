@@ -1,11 +1,10 @@
 -- The kinds of gates: their clauses hold exactly where the gate has its value.
-use Rattle.std.proofs.Common.{◌≡◌, ℕ, zero, suc, ◌+◌, ◌-◌, ◌*◌, ◌/◌, ◌%◌, ◌<◌, ◌≤◌, Bool, true, false, not, ◌&&◌, ◌||◌, cond, eqb, List, [], ◌∷◌, ◌++◌, length, get_or, refl, sym, ◌∙◌, ap, subst, arith}
-use Rattle.std.specs.List.{All}
-use Rattle.std.proofs.lemmas.List.{append-nil, append_assoc, length-append}
+use Rattle.std.proofs.Common.{◌≡◌, ℕ, ◌+◌, ◌*◌, ◌<◌, ◌≤◌, Bool, true, false, not, ◌&&◌, ◌||◌, List, [], ◌∷◌, ◌++◌, length, refl, sym, ◌∙◌, ap, subst, arith}
+use Rattle.std.proofs.lemmas.List.{append_assoc, length-append}
 use Rattle.lz_cnf.specs.declared.clause.Lit.{Lit}
-use Rattle.lz_cnf.specs.Models.{variable_of, is_negated, negated}
-use Rattle.lz_gates.specs.Circuits.{Circuit, Assignment, value, clause_value, Satisfies, Agree, IsLit, IsBelow, AreBelow, IsCircuit, Extends, Makes, choice, xor, IsFold}
-use Rattle.lz_gates.proofs.Extending.{value_agrees, satisfies_back, makes_same, makes_so}
+use Rattle.lz_cnf.specs.Models.{variable_of, negated}
+use Rattle.lz_gates.specs.Circuits.{Circuit, Assignment, value, clause_value, Satisfies, Agree, IsLit, IsBelow, AreBelow, Extends, Makes, choice, xor}
+use Rattle.lz_gates.proofs.Extending.{value_agrees, satisfies_back}
 use Rattle.lz_gates.proofs.Lists.{below_two as two, below_three as three}
 use Rattle.lz_gates.proofs.Gate.{variable_of-negated, variable_of-positive, value-negated, value-positive, extends_by_value}
 

@@ -1,5 +1,9 @@
+ghost use Rattle.std.specs.Prelude.{◌≤◌, IfOk};
+ghost use Rattle.lz_gates.specs.Circuits.{IsLit};
+
 use super::*;
 use lz_cnf::{Assignment, Lit};
+use std::alloc::Global;
 use std::test::Fail;
 
 /// The two values of a variable.
@@ -40,60 +44,77 @@ fn gates_have_their_values(rt: HostRuntime) -> Result<(), Fail> {
     Ok(())
 }
 
-/// Constant, equal and opposite operands take no variable and no clause.
-#[test]
-fn folded_gates_take_nothing(rt: HostRuntime) -> Result<(), Fail> {
-    let mut builder = Builder::new(rt.alloc()).ok().ok_or("memory")?;
+/// A builder with one fresh variable, and that variable's literal.
+fn started(alloc: Global) -> Result<(Builder, Lit), Fail>
+    ensures lit { IfOk result (λ r. IsLit r.0 r.1) }
+    ensures few { IfOk result (λ r. r.0.variables ≤ 2) }
+{
+    let mut builder = Builder::new(alloc).ok().ok_or("memory")?;
     let x = builder.fresh().ok().ok_or("memory")?;
+    Ok((builder, x))
+}
+
+/// Conjunctions of constant, equal and opposite operands take no variable and no clause.
+#[test]
+fn folded_conjunctions(rt: HostRuntime) -> Result<(), Fail> {
+    let (mut builder, x) = started(rt.alloc())?;
     let on = builder.truth();
     let off = builder.falsity();
-    let cases = [
-        (
-            builder.and_gate(x, on),
-            x,
-            "a true operand leaves the other",
-        ),
-        (
-            builder.and_gate(off, x),
-            off,
-            "a false operand leaves false",
-        ),
-        (builder.and_gate(x, x), x, "equal operands"),
-        (builder.and_gate(x, negation(x)), off, "opposite operands"),
-        (
-            builder.xor_gate(on, x),
-            negation(x),
-            "a true operand turns the other",
-        ),
-        (
-            builder.xor_gate(x, off),
-            x,
-            "a false operand leaves the other",
-        ),
-        (builder.xor_gate(x, x), off, "equal operands"),
-        (builder.xor_gate(negation(x), x), on, "opposite operands"),
-        (builder.choose_gate(on, x, off), x, "a true test"),
-        (builder.choose_gate(off, on, x), x, "a false test"),
-        (builder.choose_gate(x, off, off), off, "equal sides"),
-    ];
-    for (lit, want, reason) in cases {
-        assert_eq!(rt; lit.ok().ok_or("memory")?, want, "{reason}");
-    }
+    let with_true = builder.and_gate(x, on).ok().ok_or("memory")?;
+    let with_false = builder.and_gate(off, x).ok().ok_or("memory")?;
+    let equal = builder.and_gate(x, x).ok().ok_or("memory")?;
+    let opposite = builder.and_gate(x, negation(x)).ok().ok_or("memory")?;
+    assert_eq!(rt;
+        [with_true.0, with_false.0, equal.0, opposite.0],
+        [x.0, off.0, x.0, off.0]
+    );
     let formula = builder.finish();
     assert_eq!(rt; (formula.variables, formula.clauses.items().len()), (2, 1));
     Ok(())
 }
 
-/// A builder that gave up answers want of memory at each call that can.
+/// So do differences.
+#[test]
+fn folded_differences(rt: HostRuntime) -> Result<(), Fail> {
+    let (mut builder, x) = started(rt.alloc())?;
+    let on = builder.truth();
+    let off = builder.falsity();
+    let with_true = builder.xor_gate(on, x).ok().ok_or("memory")?;
+    let with_false = builder.xor_gate(x, off).ok().ok_or("memory")?;
+    let equal = builder.xor_gate(x, x).ok().ok_or("memory")?;
+    let opposite = builder.xor_gate(negation(x), x).ok().ok_or("memory")?;
+    assert_eq!(rt;
+        [with_true.0, with_false.0, equal.0, opposite.0],
+        [negation(x).0, x.0, off.0, on.0]
+    );
+    let formula = builder.finish();
+    assert_eq!(rt; (formula.variables, formula.clauses.items().len()), (2, 1));
+    Ok(())
+}
+
+/// And choices by a constant or between equal sides.
+#[test]
+fn folded_choices(rt: HostRuntime) -> Result<(), Fail> {
+    let (mut builder, x) = started(rt.alloc())?;
+    let on = builder.truth();
+    let off = builder.falsity();
+    let by_true = builder.choose_gate(on, x, off).ok().ok_or("memory")?;
+    let by_false = builder.choose_gate(off, on, x).ok().ok_or("memory")?;
+    let equal = builder.choose_gate(x, off, off).ok().ok_or("memory")?;
+    assert_eq!(rt; [by_true.0, by_false.0, equal.0], [x.0, x.0, off.0]);
+    let formula = builder.finish();
+    assert_eq!(rt; (formula.variables, formula.clauses.items().len()), (2, 1));
+    Ok(())
+}
+
+/// A builder that gave up answers want of memory.
 #[test]
 fn spent_builder_answers_want_of_memory(rt: HostRuntime) -> Result<(), Fail> {
-    let mut builder = Builder::new(rt.alloc()).ok().ok_or("memory")?;
-    let x = builder.fresh().ok().ok_or("memory")?;
+    let (mut builder, x) = started(rt.alloc())?;
     let on = builder.truth();
+    assert!(rt; !builder.is_spent());
     builder.give_up();
     assert!(rt; builder.is_spent());
     assert!(rt; builder.and_gate(x, on).is_err());
-    assert!(rt; builder.fresh().is_err());
-    assert!(rt; builder.require(&[x]).is_err());
     Ok(())
 }
