@@ -185,3 +185,7 @@ flat_weight flat = threads_weight flat.threads
 abbrev pub instructions : List (List MarkedInstruction) → ℕ
 instructions [] = 0
 instructions (code ∷ rest) = length code + instructions rest
+
+-- the greatest weight of a program that is sequentialized or turned into nodes
+abbrev pub most_weight : ℕ
+most_weight = 10000000

@@ -2,12 +2,14 @@
 //! program, and when a straight program fails.
 #![tactic(auto)]
 
+mod build;
 mod evaluate;
 mod perform;
 mod program;
 mod step;
 mod straight;
 
+pub use build::{binary_expr, choose_expr, copy_expr, copy_instr, copy_spot};
 pub use program::{
     Flat, FlatExpr, FlatThread, FlatThreads, Guarded, GuardedList, Instr, Marked, Spot, Straight,
 };
