@@ -1,3 +1,4 @@
-pub mod Tokens
-pub mod Scopes
+pub mod FirstFormTokens
+pub mod FirstFormScopes
 pub mod FirstForm
+pub mod Trees
