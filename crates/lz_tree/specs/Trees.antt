@@ -84,7 +84,7 @@ expressions_of (e ∷ rest) = and e (expressions_of rest)
 -- last, or that of a mutex or of a condition.
 pub data Initializer : Type 0 where
   nothing : Initializer
-  value : (value : Expression) → Initializer
+  single : (of : Expression) → Initializer
   listed : (values : Expressions) (comma : Bool) → Initializer
   mutex : Initializer
   cond : Initializer
@@ -105,7 +105,7 @@ pub record Declaration : Type 0 where
 -- what an initializer is without its pointers
 abbrev pub initializer : First → Initializer
 initializer first.Nothing = nothing
-initializer (first.Value e) = value (expression e)
+initializer (first.Value e) = single (expression e)
 initializer (first.Listed values comma) = listed (expressions_of (map expression values.items)) comma
 initializer first.Mutex = mutex
 initializer first.Cond = cond
