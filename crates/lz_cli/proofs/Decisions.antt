@@ -3,7 +3,7 @@ use Rattle.std.proofs.Common.{length, replicate, slice_index, slice_set, ◌≡�
 use Rattle.std.specs.List.{list_any}
 use Rattle.std.proofs.Math.Dec.{leb-suc-zero, eqb-zero-suc}
 use Rattle.lz_base.specs.declared.word.BreakKind.{BreakKind}
-use Rattle.lz_tree.specs.Scopes.{Program}
+use Rattle.lz_tree.specs.FirstFormScopes.{Program}
 use Rattle.lz_model.specs.declared.action.Action.{Action}
 use Rattle.lz_model.specs.declared.action.Action.TheVariants.{Check, Rd, Wr, End}
 use Rattle.lz_model.specs.declared.action.Event.{Event}

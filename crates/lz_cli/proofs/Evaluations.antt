@@ -8,11 +8,11 @@ use Rattle.lz_base.specs.declared.operator.Binary.{Binary}
 use Rattle.lz_base.specs.declared.word.IntType.{IntType}
 use Rattle.lz_base.specs.declared.word.BreakKind.{BreakKind}
 use Rattle.lz_base.specs.declared.word.BreakKind.TheVariants as kinds
-use Rattle.lz_tree.specs.declared.scoped.KnownName.TheVariants as known
-use Rattle.lz_tree.specs.declared.scoped.KnownName.{KnownName}
-use Rattle.lz_tree.specs.declared.scoped.Object.{Object}
-use Rattle.lz_tree.specs.declared.scoped.Object.TheVariants.{Cell}
-use Rattle.lz_tree.specs.Scopes.{Expression, constant, read, binary, assign, call, IsObjectOf}
+use Rattle.lz_tree.specs.declared.first_form.scoped.KnownName.TheVariants as known
+use Rattle.lz_tree.specs.declared.first_form.scoped.KnownName.{KnownName}
+use Rattle.lz_tree.specs.declared.first_form.scoped.Object.{Object}
+use Rattle.lz_tree.specs.declared.first_form.scoped.Object.TheVariants.{Cell}
+use Rattle.lz_tree.specs.FirstFormScopes.{Expression, constant, read, binary, assign, call, IsObjectOf}
 use Rattle.lz_model.specs.declared.action.Action.TheVariants.{Check, Rd, Wr}
 use Rattle.lz_model.specs.declared.schedule.Step.{Step}
 use Rattle.lz_model.specs.Traces.{Act, Behaviour, ends_with, ◌and_then◌, writes, checks, expression_trace}

@@ -3,7 +3,7 @@ use Rattle.std.proofs.Common.{◌≡◌, ℕ, ◌<◌, ◌≤◌, ◌⊎◌, inl
 use Rattle.lz_base.specs.declared.word.BreakKind.{BreakKind}
 use Rattle.lz_outside.specs.Faults.{Rose}
 use Rattle.lz_outside.specs.Files.{FileMap, Lacks, Tells, Holds, IsLonger}
-use Rattle.lz_tree.specs.Scopes.{Program}
+use Rattle.lz_tree.specs.FirstFormScopes.{Program}
 use Rattle.lz_tree.specs.FirstForm.{IsFirstForm}
 use Rattle.std.specs.List.{flat_map}
 use Rattle.std.proofs.lemmas.List.{map-append}

@@ -3,8 +3,8 @@ use Rattle.std.proofs.Common.{subst, ◌≤◌, ◌≡◌, ℕ, ◌+◌, ◌<◌
 use Rattle.std.proofs.lemmas.List.{drop_more, drop_all}
 use Rattle.std.specs.List.{AllByRecursion}
 use Rattle.lz_base.specs.declared.word.BreakKind.{BreakKind}
-use Rattle.lz_tree.specs.Scopes.{Expression, Statement, eval, statement, IsStatementOf, IsExpressionOf}
-use Rattle.lz_tree.specs.declared.scoped.ScopedStmt.{ScopedStmt}
+use Rattle.lz_tree.specs.FirstFormScopes.{Expression, Statement, eval, statement, IsStatementOf, IsExpressionOf}
+use Rattle.lz_tree.specs.declared.first_form.scoped.ScopedStmt.{ScopedStmt}
 use Rattle.lz_model.specs.declared.schedule.Step.{Step}
 use Rattle.lz_model.specs.Traces.{Flow, normal, ends_with, expression_trace, statement_trace, led_on, statements_trace}
 use Rattle.lz_cli.specs.declared.decide.Evaluated.TheVariants.{Done, Broke}

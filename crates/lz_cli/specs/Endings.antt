@@ -4,7 +4,7 @@ use Rattle.lz_base.specs.declared.word.BreakKind.{BreakKind}
 use Rattle.lz_outside.specs.Faults.{Rose}
 use Rattle.lz_outside.specs.Files.{FileMap, Lacks, Holds, IsLonger}
 use Rattle.lz_outside.specs.Written.{Gains, GainsPrefix}
-use Rattle.lz_tree.specs.Scopes.{Program}
+use Rattle.lz_tree.specs.FirstFormScopes.{Program}
 use Rattle.lz_tree.specs.FirstForm.{IsFirstForm}
 use Rattle.lz_model.specs.declared.action.Event.{Event}
 use Rattle.lz_model.specs.declared.schedule.Step.{Step}

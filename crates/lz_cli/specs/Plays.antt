@@ -6,9 +6,9 @@ use Rattle.std.specs.List.{flat_map}
 use Rattle.lz_base.specs.declared.word.BreakKind.{BreakKind}
 use Rattle.lz_model.specs.declared.action.Event.{Event}
 use Rattle.lz_model.specs.declared.schedule.Step.{Step}
-use Rattle.lz_tree.specs.declared.scoped.Object.{Object}
-use Rattle.lz_tree.specs.declared.scoped.Object.TheVariants.{Cell}
-use Rattle.lz_tree.specs.Scopes.{Expression, Statement, Program}
+use Rattle.lz_tree.specs.declared.first_form.scoped.Object.{Object}
+use Rattle.lz_tree.specs.declared.first_form.scoped.Object.TheVariants.{Cell}
+use Rattle.lz_tree.specs.FirstFormScopes.{Expression, Statement, Program}
 use Rattle.lz_model.specs.Traces.{Act, Outcome, done, cut, Behaviour, expression_trace, statements_trace, normal}
 use Rattle.lz_model.specs.SharedState.{State}
 use Rattle.lz_model.specs.Runs.{going, stuck, broken, course}

@@ -3,12 +3,12 @@
 
 ghost use Rattle.std.specs.Prelude.{◌≡◌, ◌<◌, [], ◌∷◌, ◌++◌, length, map, All, IfOk, OnOk};
 ghost use Rattle.std.specs.List.{AllByRecursion};
-ghost use Rattle.lz_tree.specs.Scopes.{expression, eval, statement, program, IsExpressionOf, IsStatementOf, IsWellFormed};
+ghost use Rattle.lz_tree.specs.FirstFormScopes.{expression, eval, statement, program, IsExpressionOf, IsStatementOf, IsWellFormed};
 ghost use Rattle.lz_cli.specs.Plays.{Evaluates, Executes, HasWord, cell_number, Decides};
 
 use lz_base::{BreakKind, Memory, Value, binary};
 use lz_model::{Schedule, Step};
-use lz_tree::{Object, Scoped, ScopedExpr, ScopedStmt};
+use lz_tree::first_form::{Object, Scoped, ScopedExpr, ScopedStmt};
 use std::alloc::Global;
 
 /// How an expression came out.

@@ -2,7 +2,7 @@
 
 ghost use Rattle.std.specs.Prelude.{ℕ, ◌<◌, ◌≤◌, List, length};
 ghost use Rattle.lz_outside.specs.Files.{Lacks};
-ghost use Rattle.lz_tree.specs.Scopes.{Program};
+ghost use Rattle.lz_tree.specs.FirstFormScopes.{Program};
 ghost use Rattle.lz_tree.specs.FirstForm.{IsFirstForm};
 ghost use Rattle.lz_cli.specs.declared.ending.Ending.{Ending};
 ghost use Rattle.lz_cli.specs.declared.evidence.Evidence.{Evidence};

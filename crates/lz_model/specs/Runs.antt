@@ -2,7 +2,7 @@
 -- A switch may come after any action.
 use Rattle.std.specs.Prelude.{◌≢◌, ℕ, ◌==◌, List, [], ◌∷◌, if◌then◌else◌}
 use Rattle.lz_base.specs.declared.word.BreakKind.{BreakKind}
-use Rattle.lz_tree.specs.Scopes.{Program}
+use Rattle.lz_tree.specs.FirstFormScopes.{Program}
 use Rattle.lz_model.specs.declared.action.Event.{Event}
 use Rattle.lz_model.specs.Traces.{Act}
 use Rattle.lz_model.specs.ThreadTraces.{IsTrace}

@@ -6,11 +6,11 @@ use Rattle.std.specs.Str.{bytes_eq}
 use Rattle.std.specs.Fmt.{decimal}
 use Rattle.lz_base.specs.declared.operator.Binary.TheVariants.{Add, Eq}
 use Rattle.lz_base.specs.declared.word.IntType.TheVariants.{Int}
-use Rattle.lz_tree.specs.declared.token.Punct.TheVariants.{OpenParen, CloseParen, OpenBrace, CloseBrace, Semicolon, Assign, Equal, Plus}
-use Rattle.lz_tree.specs.declared.scoped.KnownName.TheVariants.{Assert}
-use Rattle.lz_tree.specs.declared.scoped.Object.TheVariants.{Cell}
-use Rattle.lz_tree.specs.Tokens.{Piece, word, number, mark, Lexeme, HasLexemes}
-use Rattle.lz_tree.specs.Scopes.{Expression, constant, read, binary, assign, call, Statement, eval, Program}
+use Rattle.lz_tree.specs.declared.first_form.token.Punct.TheVariants.{OpenParen, CloseParen, OpenBrace, CloseBrace, Semicolon, Assign, Equal, Plus}
+use Rattle.lz_tree.specs.declared.first_form.scoped.KnownName.TheVariants.{Assert}
+use Rattle.lz_tree.specs.declared.first_form.scoped.Object.TheVariants.{Cell}
+use Rattle.lz_tree.specs.FirstFormTokens.{Piece, word, number, mark, Lexeme, HasLexemes}
+use Rattle.lz_tree.specs.FirstFormScopes.{Expression, constant, read, binary, assign, call, Statement, eval, Program}
 
 -- An operand: a name or a constant, and the line on which it stands.
 pub data Operand : Type 0 where

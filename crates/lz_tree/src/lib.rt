@@ -2,8 +2,15 @@
 //! they spell.
 #![tactic(auto)]
 
-mod scoped;
+mod expression;
+pub mod first_form;
+mod operator;
+mod program;
+mod statement;
 mod token;
 
-pub use scoped::{KnownName, Object, Scoped, ScopedExpr, ScopedStmt, ScopedStmts};
-pub use token::{Keyword, Names, Punct, Token, TokenKind, TokenList, Tokens};
+pub use expression::{Expr, Exprs, Target, TypeName};
+pub use operator::{Binary, Unary};
+pub use program::{External, Externals, Lead, Param, Params, Program};
+pub use statement::{Declarator, Declarators, First, Objects, Stmt, Stmts};
+pub use token::{Form, Keyword, Names, Punct, Token, TokenKind, TokenList, Tokens};

@@ -1,5 +1,5 @@
 use Rattle.std.proofs.Common.{refl}
-use Rattle.lz_tree.specs.Scopes.{program}
+use Rattle.lz_tree.specs.FirstFormScopes.{program}
 use Rattle.lz_cli.proofs.Verdicts.{not_built, success, failure, failure_printable}
 use Rattle.lz_cli.proofs.command.judge.Goals as goal
 

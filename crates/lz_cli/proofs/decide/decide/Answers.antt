@@ -1,4 +1,4 @@
-use Rattle.lz_tree.specs.Scopes.{program}
+use Rattle.lz_tree.specs.FirstFormScopes.{program}
 use Rattle.lz_cli.proofs.Decisions.{done_decides, break_decides}
 use Rattle.lz_cli.proofs.decide.decide.Goals as goal
 

@@ -1,5 +1,5 @@
 use Rattle.std.proofs.Common.{List, length, map, subst, arith}
-use Rattle.lz_tree.specs.Scopes.{Statement, statement, expression}
+use Rattle.lz_tree.specs.FirstFormScopes.{Statement, statement, expression}
 use Rattle.lz_cli.proofs.Executions.{LeadsOn, LeadsOn-start, LeadsOn-more, LeadsOn-break, LeadsOn-done, here, within_here}
 use Rattle.lz_cli.proofs.decide.execute.Goals as goal
 

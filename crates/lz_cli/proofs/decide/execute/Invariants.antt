@@ -1,5 +1,5 @@
 use Rattle.std.proofs.Common.{◌<◌, All, drop, map}
-use Rattle.lz_tree.specs.Scopes.{statement}
+use Rattle.lz_tree.specs.FirstFormScopes.{statement}
 use Rattle.lz_cli.proofs.Executions.{LeadsOn}
 use Rattle.lz_cli.proofs.decide.execute.Given as goal
 

@@ -4,13 +4,13 @@ use Rattle.std.specs.Prelude.{ℕ, ◌<◌, List, length, map}
 use Rattle.std.specs.List.{AllByRecursion}
 use Rattle.lz_base.specs.declared.operator.Binary.{Binary}
 use Rattle.lz_base.specs.declared.word.IntType.{IntType}
-use Rattle.lz_tree.specs.declared.scoped.KnownName.{KnownName}
-use Rattle.lz_tree.specs.declared.scoped.Object.{Object}
-use Rattle.lz_tree.specs.declared.scoped.Object.TheVariants.{Cell}
-use Rattle.lz_tree.specs.declared.scoped.ScopedExpr.{ScopedExpr, Constant, Read, Binary', Assign', Call'}
-use Rattle.lz_tree.specs.declared.scoped.ScopedStmt.{ScopedStmt}
-use Rattle.lz_tree.specs.declared.scoped.ScopedStmt.TheVariants.{Eval}
-use Rattle.lz_tree.specs.declared.scoped.Scoped.{Scoped}
+use Rattle.lz_tree.specs.declared.first_form.scoped.KnownName.{KnownName}
+use Rattle.lz_tree.specs.declared.first_form.scoped.Object.{Object}
+use Rattle.lz_tree.specs.declared.first_form.scoped.Object.TheVariants.{Cell}
+use Rattle.lz_tree.specs.declared.first_form.scoped.ScopedExpr.{ScopedExpr, Constant, Read, Binary', Assign', Call'}
+use Rattle.lz_tree.specs.declared.first_form.scoped.ScopedStmt.{ScopedStmt}
+use Rattle.lz_tree.specs.declared.first_form.scoped.ScopedStmt.TheVariants.{Eval}
+use Rattle.lz_tree.specs.declared.first_form.scoped.Scoped.{Scoped}
 
 -- An expression (C99 6.5). Each part has the line of its first token.
 pub data Expression : Type 0 where
