@@ -2,7 +2,7 @@
 use Rattle.std.proofs.Common.{map, ◌≡◌, ℕ, zero, suc, ◌+◌, ◌-◌, ◌*◌, ◌/◌, ◌%◌, ◌<◌, ◌≤◌, ◌⊎◌, inl, inr, ⊎_elim, ◌↔◌, Bool, true, false, not, cond, eqb, List, [], ◌∷◌, ◌++◌, length, get_or, take, drop, Some, None, slice_get, refl, sym, ◌∙◌, ap, subst, arith}
 use Rattle.std.specs.List.{All, Any, Contains}
 use Rattle.std.proofs.lemmas.Bool.{eqb-true, eqb-false}
-use Rattle.std.proofs.lemmas.List.{append-nil, append_assoc, take_all, take_more, drop_more, drop_all, take-append-drop}
+use Rattle.std.proofs.lemmas.List.{append-nil, append_assoc, take_all, take_more, drop_more, drop_all, take-append-drop, get_or_default}
 use Rattle.std.proofs.lemmas.List.Elements.{All-push, All-contains, Contains-get_or, Contains-push, Contains-push_cases, Contains-append_left}
 use Rattle.std.proofs.lemmas.Option.{slice_get-get_or, slice_get_past}
 use Rattle.lz_cnf.specs.declared.clause.Lit.{Lit}
@@ -40,12 +40,6 @@ pub negated_below : (lit : Lit) (variables room : ℕ) → variable_of lit < var
 negated_below lit variables room below fits =
     let same : variable_of (negated lit) ≡ variable_of lit = (sign_flips lit.0 (is_negated lit) refl).0 in
     number_below (negated lit) variables room (omega arith) fits
-
--- a read within a list is the same at any default
-same_read : {X : Type 0} (xs : List X) (k : ℕ) (d e : X) → k < length xs → get_or xs k d ≡ get_or xs k e
-same_read [] k d e lt = absurd (omega (arith, lt))
-same_read (x ∷ xs) zero d e lt = refl
-same_read (x ∷ xs) (suc k) d e lt = same_read xs k d e (omega arith)
 
 -- ---- the clause that a hint names
 
@@ -230,6 +224,16 @@ one_is_left unit e = cc
 pub two_are_left : TwoLeft ≡ AllFalse → ⊥
 two_are_left e = cc
 
+-- a list of which a test said that it is not empty
+pub not_empty : {X : Type 0} (test : Bool) (xs : List X) → test ≡ eqb (length xs) 0 → test ≡ false → xs ≡ [] → ⊥
+not_empty test xs is fails empty =
+    let none : eqb (length xs) 0 ≡ true = ap (λ ys. eqb (length ys) 0) empty in
+    no_truth (sym fails ∙ is ∙ none)
+
+pub some_items : {X : Type 0} (test : Bool) (xs : List X) → test ≡ eqb (length xs) 0 → test ≡ false → 0 < length xs
+some_items test [] is fails = no_truth (sym fails ∙ is)
+some_items test (x ∷ xs) is fails = omega arith
+
 -- no hints lead nowhere
 pub none_leads : (known : List (List Lit)) (false_ : List Lit) (hints : List ℕ) → length hints ≡ 0 → Leads known false_ hints → ⊥
 none_leads known false_ [] e leads = leads.leads
@@ -275,16 +279,16 @@ log_below formula steps below are = go [] steps (subst (AreBelow formula.variabl
         subst (λ (e : List LogStep). AreBelow formula.variables (known_clauses formula e)) (append_assoc earlier (step ∷ []) steps) (go (earlier ++ step ∷ []) steps more are.1)
 
 -- one turn: the front of a log with its next step
-pub steps_turn : (formula : Cnf) (steps : List LogStep) (i : ℕ) (d : LogStep) → i < length steps → AreByHints formula [] (take i steps) → IsByHints formula (take i steps) (get_or steps i d) → AreByHints formula [] (take (i + 1) steps)
-steps_turn formula steps i d lt are own =
-    subst (AreByHints formula []) (sym (take_more steps i d lt)) (by_hints_push formula [] (take i steps) (get_or steps i d) are own)
+pub steps_turn : (formula : Cnf) (steps : List LogStep) (i : ℕ) (step : LogStep) → i < length steps → step ≡ get_or steps i step → AreByHints formula [] (take i steps) → IsByHints formula (take i steps) step → AreByHints formula [] (take (i + 1) steps)
+steps_turn formula steps i step lt is are own =
+    subst (AreByHints formula []) (sym (take_more steps i step lt)) (by_hints_push formula [] (take i steps) (get_or steps i step) are (subst (IsByHints formula (take i steps)) is own))
 
 -- a step that is not by its hints is the first bad one
-pub first_bad : (formula : Cnf) (steps : List LogStep) (i : ℕ) (d : LogStep) → i < length steps → AreByHints formula [] (take i steps) → (IsByHints formula (take i steps) (get_or steps i d) → ⊥) → IsFirstBad formula steps i
-first_bad formula steps i d lt are bad = record {
+pub first_bad : (formula : Cnf) (steps : List LogStep) (i : ℕ) (step : LogStep) → i < length steps → step ≡ get_or steps i step → AreByHints formula [] (take i steps) → (IsByHints formula (take i steps) step → ⊥) → IsFirstBad formula steps i
+first_bad formula steps i step lt is are bad = record {
   within = omega arith;
   before = are;
-  bad = λ other within own. bad (subst (IsByHints formula (take i steps)) (same_read steps i other d lt) own);
+  bad = λ other within own. bad (subst (IsByHints formula (take i steps)) (get_or_default steps i other step within ∙ sym is) own);
   none_empty = λ e. absurd (omega arith);
 }
 

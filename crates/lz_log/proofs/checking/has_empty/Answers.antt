@@ -1,22 +1,19 @@
-use Rattle.std.proofs.Common.{rules, ◌≡◌, ◌↔◌, ℕ, ◌*◌, ◌<◌, ◌≤◌, IsTrue, IsFalse, List, [], ◌∷◌, length, IfOk, IfSome, IsNone, MatchResult, ◌+◌, ◌-◌, ◌/◌, ◌%◌, Bool, true, false, nat_eq, nat_lt, ◌++◌, slice_index_or, slice_set, bit_and, bit_or, Fits, w8, w32, w64, Bor, MutBor}
-use Rattle.std.specs.List.{All, Any, Contains}
-use Rattle.lz_cnf.specs.Models.{IsFormula, variable_of, negated}
-use Rattle.lz_cnf.specs.Partial.{IsNamed}
-use Rattle.lz_cnf.specs.declared.clause.Lit.{Lit}
-use Rattle.lz_log.specs.Checking.{IsFirstBad, IsProper, AreBelow, GoesOn, Leads, Stops}
-use Rattle.lz_log.specs.Marks.{AreStamps, Mark, Stands}
-use Rattle.lz_log.specs.Refutation.{IsByHints, Refutes, known_clauses}
-use Rattle.lz_log.specs.declared.marks.Standing.TheVariants.{AllFalse, OneLeft}
+use Rattle.std.proofs.Common.{◌≡◌, [], ◌∙◌, ap}
+use Rattle.lz_base.proofs.ListLemmas.{none_first, none_more, none_all}
+use Rattle.lz_log.specs.declared.log.LogStep.{LogStep}
+use Rattle.lz_log.proofs.CheckingLemmas.{no_truth, not_empty}
 use Rattle.lz_log.proofs.checking.has_empty.Goals as goal
 
--- src/checking.rt:93:5
 pub loop-step-init : goal.loop-step-init
-loop-step-init c = ?
+loop-step-init c = none_first (λ (step : LogStep). step.clause ≡ []) c.args.steps.now
 
--- src/checking.rt:93:5
 pub loop-step-preserved : goal.loop-step-preserved
-loop-step-preserved c = ?
+loop-step-preserved c =
+    none_more (λ (step : LogStep). step.clause ≡ []) c.args.steps.now c.loop-step.step-index c.step-item.result c.loop-step.invariant c.loop-step-test.true
+    (λ empty. not_empty _ _ c.is_empty.ensures c.if-is_empty.false (c.items.ensures ∙ ap (λ (step : LogStep). step.clause) c.step-item.is ∙ empty))
 
--- src/checking.rt:90:1
 pub returns : goal.returns
-returns c = ?
+returns c = (
+  no_truth,
+  λ some. absurd (none_all (λ (step : LogStep). step.clause ≡ []) c.args.steps.now c.loop-step.step-index c.loop-step.invariant c.loop-step-test.false some),
+)

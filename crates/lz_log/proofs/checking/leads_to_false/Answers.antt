@@ -1,7 +1,7 @@
 use Rattle.std.proofs.Common.{◌<◌, ◌+◌, ◌≡◌, ◌∷◌, [], length, arith, ◌∙◌}
 use Rattle.lz_cnf.specs.Models.{negated}
 use Rattle.lz_log.specs.Refutation.{known_clauses}
-use Rattle.lz_log.proofs.CheckingLemmas.{hint_turn, hint_stops, hint_at_end, no_truth}
+use Rattle.lz_log.proofs.CheckingLemmas.{hint_turn, hint_stops, hint_at_end, no_truth, some_items}
 use Rattle.lz_log.proofs.checking.leads_to_false.Goals as goal
 
 pub returns-then-not-propagates-clause-exact : goal.returns-then-not-propagates-clause-exact
@@ -25,6 +25,6 @@ loop-index-preserved c =
 pub returns-clause-exact : goal.returns-clause-exact
 returns-clause-exact c false_ mark =
     let now = c.loop-index.invariant.2 false_ mark in
-    let end = hint_at_end c.args.hints.now c.loop-index.index c.loop-index-test.false c.loop-index.auto.index-end (omega arith) in
+    let end = hint_at_end c.args.hints.now c.loop-index.index c.loop-index-test.false c.loop-index.auto.index-end (some_items _ _ c.is_empty.ensures c.if-is_empty.false) in
     let last = c.is_refuted.ensures now.0 now.1 in
     (λ truth. now.2.1 (rw end (last.0 truth)), λ leads. last.1 (rw end at (now.2.0 leads)))
