@@ -1,1 +1,2 @@
+pub mod LitLemmas
 mod SatisfiedLemmas

@@ -1,14 +1,14 @@
 -- A check of a log, turn by turn.
-use Rattle.std.proofs.Common.{map, ◌≡◌, ℕ, zero, suc, ◌+◌, ◌-◌, ◌*◌, ◌/◌, ◌%◌, ◌<◌, ◌≤◌, ◌⊎◌, inl, inr, ⊎_elim, ◌↔◌, Bool, true, false, not, cond, eqb, List, [], ◌∷◌, ◌++◌, length, get_or, take, drop, Some, None, slice_get, refl, sym, ◌∙◌, ap, subst, arith}
+use Rattle.std.proofs.Common.{map, ◌≡◌, ℕ, zero, suc, ◌+◌, ◌-◌, ◌*◌, ◌<◌, ◌≤◌, ⊎_elim, ◌↔◌, Bool, true, false, eqb, List, [], ◌∷◌, ◌++◌, length, get_or, take, drop, Some, None, slice_get, refl, sym, ◌∙◌, ap, subst, arith}
 use Rattle.std.specs.List.{All, Any, Contains}
-use Rattle.std.proofs.lemmas.Bool.{eqb-true, eqb-false}
 use Rattle.std.proofs.lemmas.List.{append-nil, append_assoc, take_all, take_more, drop_more, drop_all, take-append-drop, get_or_default}
 use Rattle.std.proofs.lemmas.List.Elements.{All-push, All-contains, Contains-get_or, Contains-push, Contains-push_cases, Contains-append_left}
 use Rattle.std.proofs.lemmas.Option.{slice_get-get_or, slice_get_past}
 use Rattle.lz_cnf.specs.declared.clause.Lit.{Lit}
 use Rattle.lz_cnf.specs.declared.clause.Cnf.{Cnf}
-use Rattle.lz_cnf.specs.Models.{variable_of, is_negated, negated}
+use Rattle.lz_cnf.specs.Models.{variable_of, negated}
 use Rattle.lz_cnf.specs.Partial.{IsNamed}
+use Rattle.lz_cnf.proofs.LitLemmas.{variable_of-negated, negated-negated, ne_negated}
 use Rattle.lz_log.specs.declared.log.LogStep.{LogStep}
 use Rattle.lz_log.specs.declared.marks.Marks.{Marks}
 use Rattle.lz_log.specs.declared.marks.Standing.{Standing}
@@ -16,21 +16,8 @@ use Rattle.lz_log.specs.declared.marks.Standing.TheVariants.{AllFalse, OneLeft, 
 use Rattle.lz_log.specs.Marks.{Mark, Stands}
 use Rattle.lz_log.specs.Checking.{IsFirstBad, IsProper, AreBelow, GoesOn, Stops, Leads}
 use Rattle.lz_log.specs.Refutation.{LeadsToFalse, AreByHints, IsByHints, Refutes, known_clauses}
-use Rattle.lz_log.proofs.MarksLemmas.{same_lit, in_front, here_in_front, behind_front}
-use Rattle.lz_log.proofs.RefutationLemmas.{same_named, unit_hint, two_open, false_hint, by_hints_at, by_hints_push, known_push}
-
--- ---- signs
-
-sign_flips : (n : ℕ) (odd : Bool) → eqb (n % 2) 1 ≡ odd → (cond odd (n - 1) (n + 1) / 2 ≡ n / 2) × (eqb (cond odd (n - 1) (n + 1) % 2) 1 ≡ not odd)
-sign_flips n true e =
-    let one : n % 2 ≡ 1 = eqb-true (n % 2) 1 e in
-    let even : (n - 1) % 2 ≡ 0 = omega arith in
-    (omega arith, ap (λ (r : ℕ). eqb r 1) even)
-sign_flips n false e =
-    let not_one = eqb-false (n % 2) 1 e in
-    let even : n % 2 ≡ 0 = omega (arith, not_one) in
-    let one : (n + 1) % 2 ≡ 1 = omega arith in
-    (omega arith, ap (λ (r : ℕ). eqb r 1) one)
+use Rattle.lz_log.proofs.MarksLemmas.{in_front, here_in_front, behind_front}
+use Rattle.lz_log.proofs.RefutationLemmas.{same_named, unit_hint, two_open, false_hint, by_hints_push, known_push}
 
 -- a literal of a variable below the bound has a number below twice the bound, in both signs
 pub number_below : (lit : Lit) (variables room : ℕ) → variable_of lit < variables → variables * 2 ≤ room → lit.0 < room
@@ -38,17 +25,10 @@ number_below lit variables room below fits = omega arith
 
 pub negated_below : (lit : Lit) (variables room : ℕ) → variable_of lit < variables → variables * 2 ≤ room → (negated lit).0 < room
 negated_below lit variables room below fits =
-    let same : variable_of (negated lit) ≡ variable_of lit = (sign_flips lit.0 (is_negated lit) refl).0 in
+    let same = variable_of-negated lit in
     number_below (negated lit) variables room (omega arith) fits
 
 -- ---- the clause that a hint names
-
--- what holds of each clause holds of the named one
-pub named_has : (P : List Lit → Type 0) (known : List (List Lit)) (hint : ℕ) (clause : List Lit) → All P known → IsNamed known hint clause → P clause
-named_has P known zero clause all named = absurd named
-named_has P [] (suc k) clause all named = absurd cc
-named_has P (first ∷ rest) (suc zero) clause all named = let same : first ≡ clause = cc in subst P same (all 0 first (omega arith))
-named_has P (first ∷ rest) (suc (suc k)) clause all named = named_has P rest (suc k) clause (λ j d lt. all (suc j) d (omega arith)) named
 
 in_first : (front back : List (List Lit)) (k : ℕ) (d : List Lit) → k < length front → slice_get (front ++ back) k ≡ Some (get_or front k d)
 in_first [] back k d lt = absurd (omega (arith, lt))
@@ -147,31 +127,6 @@ last_stays known false_ clause hint TwoLeft named stands leads =
 
 -- ---- the clause of a step
 
--- the negation of the negation is the literal
-pub negated_twice : (lit : Lit) → negated (negated lit) ≡ lit
-negated_twice lit = same_lit (negated (negated lit)) lit (by (is_negated lit) refl)
-  where
-    by : (odd : Bool) → is_negated lit ≡ odd → (negated (negated lit)).0 ≡ lit.0
-    by true e =
-        let one : lit.0 % 2 ≡ 1 = eqb-true (lit.0 % 2) 1 e in
-        let number : (negated lit).0 ≡ lit.0 - 1 = ap (λ (b : Bool). cond b (lit.0 - 1) (lit.0 + 1)) e in
-        let even : is_negated (negated lit) ≡ false = ap (λ (n : ℕ). eqb (n % 2) 1) number ∙ (sign_flips lit.0 true e).1 in
-        ap (λ (b : Bool). cond b ((negated lit).0 - 1) ((negated lit).0 + 1)) even ∙ ap (λ (n : ℕ). n + 1) number ∙ (let back : lit.0 - 1 + 1 ≡ lit.0 = omega arith in back)
-    by false e =
-        let number : (negated lit).0 ≡ lit.0 + 1 = ap (λ (b : Bool). cond b (lit.0 - 1) (lit.0 + 1)) e in
-        let odd : is_negated (negated lit) ≡ true = ap (λ (n : ℕ). eqb (n % 2) 1) number ∙ (sign_flips lit.0 false e).1 in
-        ap (λ (b : Bool). cond b ((negated lit).0 - 1) ((negated lit).0 + 1)) odd ∙ ap (λ (n : ℕ). n - 1) number ∙ (let back : lit.0 + 1 - 1 ≡ lit.0 = omega arith in back)
-
--- no literal is its own negation
-pub negated_differs : (lit : Lit) → lit ≡ negated lit → ⊥
-negated_differs lit same =
-    let numbers : lit.0 ≡ (negated lit).0 = ap (λ (l : Lit). l.0) same in
-    by (is_negated lit) refl numbers
-  where
-    by : (odd : Bool) → is_negated lit ≡ odd → lit.0 ≡ cond odd (lit.0 - 1) (lit.0 + 1) → ⊥
-    by true e f = let one : lit.0 % 2 ≡ 1 = eqb-true (lit.0 % 2) 1 e in omega arith
-    by false e f = omega arith
-
 pub proper_none : (variables : ℕ) → IsProper variables []
 proper_none variables = record { one_sign = λ k d lt. absurd (omega (arith, lt)); variables = λ k d lt. absurd (omega (arith, lt)) }
 
@@ -181,9 +136,9 @@ proper_push variables clause lit proper below apart = record {
   one_sign = All-push (λ l. Contains (clause ++ lit ∷ []) (negated l) → ⊥) clause lit
       (λ k d lt within. ⊎_elim
       (λ old. proper.one_sign k d lt old)
-      (λ same. apart (subst (Contains clause) (sym (ap negated same ∙ negated_twice (get_or clause k d))) (Contains-get_or clause k d lt)))
+      (λ same. apart (subst (Contains clause) (sym (ap negated same ∙ negated-negated (get_or clause k d))) (Contains-get_or clause k d lt)))
       (Contains-push_cases clause lit (negated (get_or clause k d)) within))
-      (λ within. ⊎_elim apart (λ same. negated_differs lit same) (Contains-push_cases clause lit (negated lit) within));
+      (λ within. ⊎_elim apart (λ same. ne_negated lit same) (Contains-push_cases clause lit (negated lit) within));
   variables = All-push (λ l. variable_of l < variables) clause lit proper.variables below;
 }
 

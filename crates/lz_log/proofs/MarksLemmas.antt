@@ -1,12 +1,10 @@
 -- Stamps and the literals that they mark.
-use Rattle.std.proofs.Common.{◌≡◌, ◌≢◌, ◌↔◌, ℕ, zero, suc, ◌+◌, ◌-◌, ◌*◌, ◌<◌, ◌≤◌, ◌⊎◌, inl, inr, ⊎_elim, List, [], ◌∷◌, ◌++◌, length, get_or, set, take, drop, refl, sym, ◌∙◌, ap, subst, arith, length-set}
+use Rattle.std.proofs.Common.{◌≡◌, ◌↔◌, ℕ, zero, suc, ◌+◌, ◌<◌, ◌≤◌, ◌⊎◌, inl, inr, ⊎_elim, List, [], ◌∷◌, length, get_or, set, sym, ◌∙◌, ap, subst, arith, length-set}
 use Rattle.std.proofs.lemmas.List.{get_or-set_same, get_or-set_other}
 use Rattle.std.specs.List.{All, Contains}
 use Rattle.std.proofs.lemmas.Bool.{cases_order}
-use Rattle.std.proofs.lemmas.List.Elements.{All-contains}
 use Rattle.lz_cnf.specs.declared.clause.Lit.{Lit}
-use Rattle.lz_log.specs.declared.marks.Marks.{Marks}
-use Rattle.lz_log.specs.Marks.{AreStamps, Mark}
+use Rattle.lz_cnf.proofs.LitLemmas.{same_lit}
 
 -- a later round has no stamp
 pub round_is_fresh : (stamps : List ℕ) (round : ℕ) → All (λ stamp. stamp ≤ round) stamps → (lit : Lit) → lit.0 < length stamps → (get_or stamps lit.0 0 ≡ round + 1) ↔ Contains [] lit
@@ -27,10 +25,6 @@ here_in_front false_ lit other e = (zero, omega arith, sym e)
 
 pub behind_front : (false_ : List Lit) (lit other : Lit) → Contains false_ other → Contains (lit ∷ false_) other
 behind_front false_ lit other (k, lt, e) = (suc k, omega (arith, lt), e)
-
--- a literal is its number
-pub same_lit : (one other : Lit) → one.0 ≡ other.0 → one ≡ other
-same_lit one other e = ap (λ (n : ℕ). record { 0 = n }) e
 
 -- the stamp of a literal set to the round marks it beside those that were marked
 pub marked_more : (stamps : List ℕ) (round : ℕ) (false_ : List Lit) (lit : Lit) → lit.0 < length stamps

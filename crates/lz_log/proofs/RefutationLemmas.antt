@@ -1,14 +1,21 @@
 -- Hints one by one, and the steps of a log by their places.
-use Rattle.std.proofs.Common.{◌≡◌, ℕ, zero, suc, ◌+◌, ◌<◌, ◌≤◌, ◌⊎◌, inl, inr, ⊎_elim, ◌↔◌, List, [], ◌∷◌, ◌++◌, length, get_or, take, map, Some, slice_get, refl, sym, ◌∙◌, ap, subst, arith}
-use Rattle.std.specs.List.{All, Any, Contains}
+use Rattle.std.proofs.Common.{◌≡◌, ℕ, zero, suc, ◌<◌, ◌⊎◌, ⊎_elim, ◌↔◌, List, [], ◌∷◌, ◌++◌, length, get_or, take, map, sym, ◌∙◌, ap, subst, arith}
+use Rattle.std.specs.List.{All, Contains}
 use Rattle.std.proofs.lemmas.List.{append-nil, append_assoc, map_push}
-use Rattle.std.proofs.lemmas.List.Elements.{All-contains, All-push}
+use Rattle.std.proofs.lemmas.List.Elements.{All-contains}
 use Rattle.lz_cnf.specs.declared.clause.Lit.{Lit}
 use Rattle.lz_cnf.specs.declared.clause.Cnf.{Cnf}
-use Rattle.lz_cnf.specs.Models.{variable_of, negated}
+use Rattle.lz_cnf.specs.Models.{negated}
 use Rattle.lz_cnf.specs.Partial.{IsNamed}
 use Rattle.lz_log.specs.declared.log.LogStep.{LogStep}
 use Rattle.lz_log.specs.Refutation.{LeadsToFalse, AreByHints, IsByHints, Refutes, known_clauses}
+
+-- what holds of each clause holds of the named one
+pub named_has : (P : List Lit → Type 0) (known : List (List Lit)) (hint : ℕ) (clause : List Lit) → All P known → IsNamed known hint clause → P clause
+named_has P known zero clause all named = absurd named
+named_has P [] (suc k) clause all named = absurd cc
+named_has P (first ∷ rest) (suc zero) clause all named = let same : first ≡ clause = cc in subst P same (all 0 first (omega arith))
+named_has P (first ∷ rest) (suc (suc k)) clause all named = named_has P rest (suc k) clause (λ j d lt. all (suc j) d (omega arith)) named
 
 -- a number names one clause
 pub same_named : (known : List (List Lit)) (n : ℕ) (a b : List Lit) → IsNamed known n a → IsNamed known n b → a ≡ b

@@ -1,5 +1,5 @@
 -- Inner: Which literals are marked as false, by the stamps of a check.
-use Rattle.std.specs.Prelude.{◌≡◌, ◌↔◌, ◌⊎◌, ℕ, ◌+◌, ◌*◌, ◌<◌, ◌≤◌, List, length, slice_index}
+use Rattle.std.specs.Prelude.{◌≡◌, ◌↔◌, ◌⊎◌, ◌<◌, ◌≤◌, List, length, slice_index}
 use Rattle.std.specs.List.{All, Contains}
 use Rattle.lz_cnf.specs.declared.clause.Lit.{Lit}
 use Rattle.lz_log.specs.declared.marks.Marks.{Marks}

@@ -1,4 +1,4 @@
-use Rattle.std.proofs.Common.{◌<◌, ◌+◌, ◌≡◌, ◌∷◌, [], length, arith, ◌∙◌}
+use Rattle.std.proofs.Common.{◌<◌, ◌+◌, ◌∷◌, length, arith, ◌∙◌}
 use Rattle.lz_cnf.specs.Models.{negated}
 use Rattle.lz_log.specs.Refutation.{known_clauses}
 use Rattle.lz_log.proofs.CheckingLemmas.{hint_turn, hint_stops, hint_at_end, no_truth, some_items}

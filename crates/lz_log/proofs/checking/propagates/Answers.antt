@@ -1,6 +1,7 @@
 use Rattle.std.proofs.Common.{◌<◌, All}
 use Rattle.lz_cnf.specs.Models.{variable_of}
-use Rattle.lz_log.proofs.CheckingLemmas.{named_has, unit_has_room, stops_false, stops_open, goes_on}
+use Rattle.lz_log.proofs.RefutationLemmas.{named_has}
+use Rattle.lz_log.proofs.CheckingLemmas.{unit_has_room, stops_false, stops_open, goes_on}
 use Rattle.lz_log.proofs.checking.propagates.Goals as goal
 
 pub mark-requires : goal.mark-requires
