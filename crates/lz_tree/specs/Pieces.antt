@@ -329,11 +329,16 @@ pub record Read : Type 0 where
 abbrev pub read : ConstantPiece → List ℕ → Read
 read constant rest = record { constant = constant; rest = rest }
 
+-- the character constant at the front
+unfoldable pub character_at : List ℕ → Option Read
+character_at bytes =
+    option_or (option_map (λ c. read c (drop 3 bytes)) (character_of (take 3 bytes)))
+    (option_map (λ c. read c (drop 4 bytes)) (character_of (take 4 bytes)))
+
 -- the integer or character constant at the front
 unfoldable pub constant_at : List ℕ → Option Read
 constant_at bytes =
-    if begins (is 39) bytes
-    then option_or (option_map (λ c. read c (drop 3 bytes)) (character_of (take 3 bytes))) (option_map (λ c. read c (drop 4 bytes)) (character_of (take 4 bytes)))
+    if begins (is 39) bytes then character_at bytes
     else option_map (λ c. read c (drop (prefix_len is_word_byte bytes) bytes)) (integer_of (take (prefix_len is_word_byte bytes) bytes))
 
 abbrev pub body : Bool → Bool → ConstantPiece → Body
