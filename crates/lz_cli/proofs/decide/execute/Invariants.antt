@@ -1,6 +1,6 @@
 use Rattle.std.proofs.Common.{◌<◌, All, drop, map}
 use Rattle.lz_tree.specs.FirstFormScopes.{statement}
-use Rattle.lz_cli.proofs.Executions.{LeadsOn}
+use Rattle.lz_cli.proofs.DecideLemmas.{LeadsOn}
 use Rattle.lz_cli.proofs.decide.execute.Given as goal
 
 -- what is left leads on from here, and the cells are words
