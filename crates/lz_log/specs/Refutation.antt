@@ -1,15 +1,11 @@
--- Trusted: when a step of a log follows by its hints, and when a log refutes its formula.
-use Rattle.std.specs.Prelude.{◌≡◌, ℕ, suc, zero, ◌<◌, ◌⊎◌, List, [], ◌∷◌, ◌++◌, map, slice_get, Some, ⊤}
+-- Trusted: When a step of a log follows by its hints, and when a log refutes its formula.
+use Rattle.std.specs.Prelude.{◌≡◌, ℕ, ◌<◌, ◌⊎◌, List, [], ◌∷◌, ◌++◌, map, ⊤}
 use Rattle.std.specs.List.{All, Any, Contains}
 use Rattle.lz_cnf.specs.declared.clause.Lit.{Lit}
 use Rattle.lz_cnf.specs.declared.clause.Cnf.{Cnf}
 use Rattle.lz_cnf.specs.Models.{variable_of, negated}
+use Rattle.lz_cnf.specs.Partial.{IsNamed}
 use Rattle.lz_log.specs.declared.log.LogStep.{LogStep}
-
--- the clause that a hint names, counted from 1
-abbrev pub IsNamed : List (List Lit) → ℕ → List Lit → Type 0
-IsNamed known zero clause = ⊥
-IsNamed known (suc place) clause = slice_get known place ≡ Some clause
 
 -- Where these literals are false, the hints lead to a clause that is false: each hint but the last names a
 -- clause with exactly one literal that is not false, which becomes true.
@@ -26,11 +22,16 @@ LeadsToFalse known false_ (hint ∷ next ∷ hints) =
 abbrev pub known_clauses : Cnf → List LogStep → List (List Lit)
 known_clauses formula earlier = formula.clauses ++ map (λ step. step.clause) earlier
 
--- the step follows by its hints. No variable stands in it in both signs, and each is one of the formula's
-pub record IsByHints (formula : Cnf) (earlier : List LogStep) (step : LogStep) : Type 0 where
-  pub one_sign : All (λ lit. Contains step.clause (negated lit) → ⊥) step.clause
-  pub variables : All (λ lit. variable_of lit < formula.variables) step.clause
-  pub hints : LeadsToFalse (known_clauses formula earlier) step.clause step.hints
+-- The clause follows from the known ones by the hints. No variable stands in it in both signs, and each is below
+-- the number of variables.
+pub record FollowsBy (count : ℕ) (known : List (List Lit)) (clause : List Lit) (by_ : List ℕ) : Type 0 where
+  pub one_sign : All (λ lit. Contains clause (negated lit) → ⊥) clause
+  pub variables : All (λ lit. variable_of lit < count) clause
+  pub hints : LeadsToFalse known clause by_
+
+-- the step follows by its hints
+abbrev pub IsByHints : Cnf → List LogStep → LogStep → Type 0
+IsByHints formula earlier step = FollowsBy formula.variables (known_clauses formula earlier) step.clause step.hints
 
 -- each step follows by its hints
 abbrev pub AreByHints : Cnf → List LogStep → List LogStep → Type 0

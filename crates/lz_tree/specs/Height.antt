@@ -2,6 +2,11 @@
 use Rattle.std.specs.Prelude.{ℕ, suc, max, List, [], ◌∷◌, Option, Some, None}
 use Rattle.lz_tree.specs.Trees.{Expression, constant, null, text, object, address, paren, unary, cast, binary, choose, assign, step, call, Index, whole, element, Expressions, none, and, Initializer, nothing, single, listed, mutex, cond, InitDeclarator, Declaration, Statement, empty, eval, block, declare, when, while, do_while, for, break, continue, return, label, Branch, absent, branch, Statements, nil, cons, ExternalDeclaration, objects, prototype, function, TranslationUnit}
 
+-- the greatest number of a list of things that have one, or 0
+abbrev pub greatest : {A : Type 0} → (A → ℕ) → List A → ℕ
+greatest f [] = 0
+greatest f (x ∷ rest) = max (f x) (greatest f rest)
+
 abbrev mutual
   pub expression_height : Expression → ℕ
   expression_height (constant line value form) = 1
@@ -43,13 +48,9 @@ initializer_height cond = 0
 abbrev pub declarator_height : InitDeclarator → ℕ
 declarator_height d = max (optional_height d.length) (initializer_height d.first)
 
-abbrev pub declarators_height : List InitDeclarator → ℕ
-declarators_height [] = 0
-declarators_height (d ∷ rest) = max (declarator_height d) (declarators_height rest)
-
 -- a declaration is no node: what its declarators hold
 abbrev pub declaration_height : Declaration → ℕ
-declaration_height d = declarators_height d.declarators
+declaration_height d = greatest declarator_height d.declarators
 
 abbrev mutual
   pub statement_height : Statement → ℕ
@@ -82,10 +83,6 @@ external_height (objects hidden of) = declaration_height of
 external_height (prototype line lead gives name params void_word) = 0
 external_height (function line hidden gives name params void_word body) = statement_height body
 
-abbrev pub externals_height : List ExternalDeclaration → ℕ
-externals_height [] = 0
-externals_height (e ∷ rest) = max (external_height e) (externals_height rest)
-
 -- the height of the highest node, or 0 where there is none
 abbrev pub height : TranslationUnit → ℕ
-height u = externals_height u.externals
+height u = greatest external_height u.externals

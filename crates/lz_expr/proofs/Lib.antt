@@ -1,0 +1,9 @@
+pub mod ExactLemmas
+pub mod RowsLemmas
+pub mod TailLemmas
+pub mod ClimbLemmas
+pub mod ListsLemmas
+pub mod WholeLemmas
+pub mod ManyLemmas
+pub mod GrowLemmas
+pub mod TurnsLemmas

@@ -1,0 +1,13 @@
+//! Expressions read from tokens, exactly: the expression that the tokens spell, or the first token with which
+//! no expression goes on.
+#![tactic(auto)]
+
+/// Why no tree was read.
+#[derive(Clone, Copy, Debug, PartialEq, Eq, Drop)]
+pub enum ParseError {
+    /// No text of a tree begins with the tokens up to and with this one, and one begins with those before it.
+    /// The line is the token's, or past the last token the line at the end of the file.
+    NotAProgram { token: u32, line: u32 },
+    /// There is no memory for the tree.
+    Memory,
+}
