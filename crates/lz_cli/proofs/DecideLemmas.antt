@@ -10,7 +10,7 @@ use Rattle.lz_cli.specs.Decide.{running, main_events, Goes, Breaks, main_event, 
 use Rattle.std.specs.List.{flat_map, AllByRecursion, list_any}
 use Rattle.std.proofs.lemmas.Grind.{flat_map-append}
 use Rattle.std.proofs.lemmas.List.{map-append, append-nil, drop_more, drop_all}
-use Rattle.lz_base.specs.Words.{binary_value}
+use Rattle.lz_base.specs.Words.{value_bound, binary_value}
 use Rattle.lz_base.specs.declared.operator.Binary.{Binary}
 use Rattle.lz_base.specs.declared.word.IntType.{IntType}
 use Rattle.lz_tree.specs.declared.first_form.scoped.KnownName.{KnownName}
@@ -143,7 +143,7 @@ Goes-write : (line cell value : ℕ) (cells : List ℕ)
 Goes-write line cell value cells = Goes-one (record { action = Wr cell value; line = line }) value (running cells) (running (slice_set cells cell value)) refl
 
 -- a read, which goes at the value of the cell alone
-Goes-read : (line cell : ℕ) (cells : List ℕ) → slice_index cells cell < 4294967296
+Goes-read : (line cell : ℕ) (cells : List ℕ) → slice_index cells cell < value_bound
     → Goes (reads line cell) (running cells) (record { action = Rd cell (slice_index cells cell); line = line } ∷ []) (slice_index cells cell) (running cells)
 Goes-read line cell cells word = record {
   trace = (slice_index cells cell, word, (refl, inr (refl, inl refl)));
@@ -227,7 +227,7 @@ pub constant_done : {line value : ℕ} {cells : List ℕ} {steps : List Step} �
 constant_done {line} {value} {cells} {steps} = record { course = λ n. Comes-nothing value cells steps }
 
 -- a read
-pub read_done : {line : ℕ} (object : Object) {cells : List ℕ} {s0 s1 : List Step} → slice_index cells (cell_number object) < 4294967296
+pub read_done : {line : ℕ} (object : Object) {cells : List ℕ} {s0 s1 : List Step} → slice_index cells (cell_number object) < value_bound
     → s1 ≡ s0 ++ record { thread = 0; choice = 0 } ∷ [] → Evaluates (read line object) cells cells s0 s1 (Ok (slice_index cells (cell_number object)))
 read_done {line} (Cell first) {cells} {s0} {s1} word steps =
     record { course = λ n. (record { action = Rd first (slice_index cells first); line = line } ∷ [], Goes-read line first cells word, steps) }

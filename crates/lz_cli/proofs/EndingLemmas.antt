@@ -1,5 +1,5 @@
 -- Verdicts and endings are lawful.
-use Rattle.std.proofs.Common.{◌≡◌, ℕ, ◌<◌, List, length, refl, arith}
+use Rattle.std.proofs.Common.{◌≡◌, ℕ, ◌<◌, ◌^◌, List, length, refl, arith}
 use Rattle.lz_base.specs.declared.word.BreakKind.{BreakKind}
 use Rattle.lz_tree.specs.FirstFormScopes.{Program}
 use Rattle.lz_tree.specs.FirstForm.{IsFirstForm}
@@ -36,5 +36,5 @@ failure {bytes} {p} form broken =
     record { program = p; form = form; run = run.0; is_broken = run.1; follows = run.2; within_rounds = omega (arith, run.3) }
 
 -- one round is a number of rounds that can be told
-pub failure_printable : {p : Program} {kind : BreakKind} {line : ℕ} {schedule : List Step} → Decides p (Broken schedule kind line) → rounds_of (threads_of schedule) < 4294967296
+pub failure_printable : {p : Program} {kind : BreakKind} {line : ℕ} {schedule : List Step} → Decides p (Broken schedule kind line) → rounds_of (threads_of schedule) < 2 ^ 32
 failure_printable broken = omega (arith, (broken 2).3)

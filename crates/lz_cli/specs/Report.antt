@@ -1,5 +1,5 @@
 -- Trusted: the report of an ending, to the byte, its status and its evidence.
-use Rattle.std.specs.Prelude.{ℕ, ◌<◌, List, ◌++◌, codes, ⊤}
+use Rattle.std.specs.Prelude.{ℕ, ◌<◌, ◌^◌, List, ◌++◌, codes, ⊤}
 use Rattle.std.specs.List.{flat_map}
 use Rattle.std.specs.Fmt.{decimal}
 use Rattle.lz_base.specs.declared.word.BreakKind.{BreakKind}
@@ -62,7 +62,7 @@ evidence_of OutOfMemory = Nothing
 
 -- the numbers of the report fit their types
 abbrev pub IsPrintable : Ending → Type 0
-IsPrintable (Failed kind line schedule) = rounds_of (threads_of schedule) < 4294967296
+IsPrintable (Failed kind line schedule) = rounds_of (threads_of schedule) < 2 ^ 32
 IsPrintable (Successful unwind rounds formula log) = ⊤
 IsPrintable (NotBuilt line) = ⊤
 IsPrintable FileTooLong = ⊤

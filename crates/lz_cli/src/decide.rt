@@ -3,6 +3,7 @@
 
 ghost use Rattle.std.specs.Prelude.{◌≡◌, ◌<◌, [], ◌∷◌, ◌++◌, length, map, All, IfOk, OnOk};
 ghost use Rattle.std.specs.List.{AllByRecursion};
+ghost use Rattle.lz_base.specs.Words.{value_bound};
 ghost use Rattle.lz_tree.specs.FirstFormScopes.{expression, eval, statement, program, IsExpressionOf, IsStatementOf, IsWellFormed};
 ghost use Rattle.lz_cli.specs.declared.decide.Stopped.TheVariants as reasons;
 ghost use Rattle.lz_cli.specs.Decide.{Evaluates, Executes, cell_number, Decides};
@@ -54,10 +55,10 @@ fn cell_of(object: Object) -> u32
 /// The value of an expression, evaluated in the order of its trace. A step is added for each action.
 fn evaluate(expr: &ScopedExpr, cells: &mut [Value], steps: &mut Schedule) -> Result<Value, Stopped>
     requires within { IsExpressionOf (length cells.old) (expression expr.now) }
-    requires words { All (λ word. word < 4294967296) cells.old }
+    requires words { All (λ word. word < value_bound) cells.old }
     ensures evaluates { Evaluates (expression expr.now) cells.old cells.new steps.old steps.new result }
-    ensures words { OnOk result (All (λ word. word < 4294967296) cells.new) }
-    ensures value { IfOk result (λ value. value < 4294967296) }
+    ensures words { OnOk result (All (λ word. word < value_bound) cells.new) }
+    ensures value { IfOk result (λ value. value < value_bound) }
 {
     match expr {
         ScopedExpr::Constant { line: _, value } => Ok(*value),
@@ -118,7 +119,7 @@ fn expression_of(next: &ScopedStmt) -> &ScopedExpr
 /// Executes statements one after the other, up to a check that breaks.
 fn execute(body: &[ScopedStmt], cells: &mut [Value], steps: &mut Schedule) -> Result<(), Stopped>
     requires within { AllByRecursion (IsStatementOf (length cells.old)) (map statement body.now) }
-    requires words { All (λ word. word < 4294967296) cells.old }
+    requires words { All (λ word. word < value_bound) cells.old }
     ensures { Executes (map statement body.now) cells.old cells.new steps.old steps.new result }
 {
     for next in body {

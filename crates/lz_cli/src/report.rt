@@ -1,6 +1,6 @@
 //! The text of a report.
 
-ghost use Rattle.std.specs.Prelude.{◌≡◌, ◌<◌, ◌++◌, codes, OnOk, IfOk, List};
+ghost use Rattle.std.specs.Prelude.{◌≡◌, ◌<◌, ◌^◌, ◌++◌, codes, OnOk, IfOk, List};
 ghost use Rattle.std.specs.List.{flat_map};
 ghost use Rattle.std.specs.Fmt.{decimal};
 ghost use Rattle.lz_model.specs.Rounds.{rounds_of, threads_of};
@@ -50,7 +50,7 @@ fn successful(alloc: Global, unwind: u32, rounds: u32) -> Result<Bytes, Memory>
 }
 
 fn failed(alloc: Global, kind: BreakKind, line: u32, schedule: &Schedule) -> Result<Bytes, Memory>
-    requires { rounds_of (threads_of schedule.now) < 4294967296 }
+    requires { rounds_of (threads_of schedule.now) < 2 ^ 32 }
     ensures { IfOk result (λ text. text ≡ report (Ending.Failed kind line schedule.now)) }
 {
     let mut text = Bytes::new(alloc);

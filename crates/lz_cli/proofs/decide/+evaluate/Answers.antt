@@ -1,5 +1,6 @@
 use Rattle.std.proofs.Common.{◌<◌, length, slice_index}
 use Rattle.std.proofs.lemmas.Result.{err_from_is_err_and}
+use Rattle.lz_base.specs.Words.{value_bound}
 use Rattle.lz_cli.proofs.DecideLemmas.{object_within, evaluates_out_of_memory, constant_done, read_done, binary_done, binary_left, binary_right, assign_done, assign_stops, call_stops, assertion_breaks, assertion_holds}
 use Rattle.lz_cli.proofs.decide.+evaluate.Goals as goal
 
@@ -16,7 +17,7 @@ returns-in_ok-add_step-in-Read-clause-evaluates t c =
     let cells = c.args.cells.now in
     let within = rw c.in-Read.is at c.requires.within in
     let below : c.cell_of-cell.result < length cells = rw c.cell_of-cell.ensures (object_within (length cells) c.in-Read.object within) in
-    let word : slice_index cells c.cell_of-cell.result < 4294967296 = c.requires.words c.cell_of-cell.result 0 below in
+    let word : slice_index cells c.cell_of-cell.result < value_bound = c.requires.words c.cell_of-cell.result 0 below in
     let here = rw c.cell_of-cell.ensures at word in
     rw (c.in-Read.is, c.cell_of-cell.ensures) (read_done _ here c.in_ok-add_step-in-Read.ensures)
 
