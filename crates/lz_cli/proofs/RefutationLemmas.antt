@@ -4,7 +4,7 @@ use Rattle.std.specs.List.{Contains}
 use Rattle.lz_cnf.specs.declared.clause.Lit.{Lit}
 use Rattle.lz_cnf.specs.Models.{negated}
 use Rattle.lz_log.specs.Refutation.{Refutes, LeadsToFalse}
-use Rattle.lz_cli.specs.LeastRefutation.{positive, negative, both, empty_step}
+use Rattle.lz_cli.specs.Refutation.{positive, negative, both, empty_step}
 
 itself : (k : ℕ) (d : Lit) → k < 1 → (get_or (positive ∷ []) k d ≡ positive) ⊎ Contains [] (get_or (positive ∷ []) k d)
 itself zero d h = inl refl

@@ -1,7 +1,7 @@
 -- Inner: the course of code that has no choice, from a state in which thread 0 alone is made.
 -- Where the code goes, no trace of it breaks a check, and each trace of it that is done is this one or gets
 -- stuck; where it breaks, this course shows it.
-use Rattle.std.specs.Prelude.{◌≡◌, ◌≢◌, ℕ, false, ◌<◌, List, [], ◌++◌, map, ⊤}
+use Rattle.std.specs.Prelude.{◌≡◌, ◌≢◌, ℕ, false, List, [], ◌++◌, map, ⊤, Result, Ok, Err}
 use Rattle.std.specs.List.{flat_map}
 use Rattle.lz_base.specs.declared.word.BreakKind.{BreakKind}
 use Rattle.lz_model.specs.declared.action.Event.{Event}
@@ -9,15 +9,13 @@ use Rattle.lz_model.specs.declared.schedule.Step.{Step}
 use Rattle.lz_tree.specs.declared.first_form.scoped.Object.{Object}
 use Rattle.lz_tree.specs.declared.first_form.scoped.Object.TheVariants.{Cell}
 use Rattle.lz_tree.specs.FirstFormScopes.{Expression, Statement, Program}
-use Rattle.lz_model.specs.Traces.{Act, Outcome, done, cut, Behaviour, expression_trace, statements_trace, normal}
+use Rattle.lz_model.specs.Traces.{Act, Outcome, done, cut, Behaviour, expression_trace, statements_trace, Flow, normal}
 use Rattle.lz_model.specs.SharedState.{State}
 use Rattle.lz_model.specs.Runs.{going, stuck, broken, course}
 use Rattle.lz_model.specs.Rounds.{rounds_of, threads_of}
 use Rattle.lz_model.specs.Violation.{steps_of, Violated, IsBrokenRun, Follows}
-use Rattle.lz_cli.specs.declared.decide.Evaluated.{Evaluated}
-use Rattle.lz_cli.specs.declared.decide.Evaluated.TheVariants.{Done, Broke}
-use Rattle.lz_cli.specs.declared.decide.Executed.{Executed}
-use Rattle.lz_cli.specs.declared.decide.Executed.TheVariants as executed
+use Rattle.lz_cli.specs.declared.decide.Stopped.{Stopped}
+use Rattle.lz_cli.specs.declared.decide.Stopped.TheVariants as stopped
 use Rattle.lz_cli.specs.declared.decide.Decided.{Decided}
 use Rattle.lz_cli.specs.declared.decide.Decided.TheVariants.{Holds, Broken}
 
@@ -63,15 +61,24 @@ abbrev pub ComesToBreak : {A : Type 0} → Behaviour A → List ℕ → List Ste
 ComesToBreak code before steps later kind line =
     (acts : List Act) × Breaks code (running before) acts kind line × (later ≡ steps ++ main_steps acts)
 
--- how the evaluation of an expression came out, whatever the bound on turns of loops
-unfoldable pub Evaluates : Expression → List ℕ → List ℕ → List Step → List Step → Evaluated → Type 0
-Evaluates e before after steps later (Done value) = (n : ℕ) → Comes (expression_trace n e) before after steps later value
-Evaluates e before after steps later (Broke kind line) = (n : ℕ) → ComesToBreak (expression_trace n e) before steps later kind line
+-- how code came out: it is done with a value, or a check broke; of want of memory nothing is said
+abbrev pub ComesOut : {A : Type 0} → Behaviour A → List ℕ → List ℕ → List Step → List Step → Result A Stopped → Type 0
+ComesOut code before after steps later (Ok value) = Comes code before after steps later value
+ComesOut code before after steps later (Err (stopped.Broke kind line)) = ComesToBreak code before steps later kind line
+ComesOut code before after steps later (Err stopped.OutOfMemory) = ⊤
 
--- how statements came out
-unfoldable pub Executes : List Statement → List ℕ → List ℕ → List Step → List Step → Executed → Type 0
-Executes body before after steps later executed.Done = (n : ℕ) → Comes (statements_trace n body) before after steps later normal
-Executes body before after steps later (executed.Broke kind line) = (n : ℕ) → ComesToBreak (statements_trace n body) before steps later kind line
+-- the evaluation of an expression came out so, whatever the bound on turns of loops
+pub record Evaluates (e : Expression) (before after : List ℕ) (steps later : List Step) (came : Result ℕ Stopped) : Type 0 where
+  pub course : (n : ℕ) → ComesOut (expression_trace n e) before after steps later came
+
+-- how statements that are done lead on
+abbrev pub flow_of : Result (Unit {0}) Stopped → Result Flow Stopped
+flow_of (Ok nothing) = Ok normal
+flow_of (Err stop) = Err stop
+
+-- the execution of statements came out so
+pub record Executes (body : List Statement) (before after : List ℕ) (steps later : List Step) (came : Result (Unit {0}) Stopped) : Type 0 where
+  pub course : (n : ℕ) → ComesOut (statements_trace n body) before after steps later (flow_of came)
 
 -- The verdict on a program is right: it holds where the program is not violated within any bounds; it is
 -- broken where some run follows the schedule, breaks a check as it says, and takes one round.
@@ -83,8 +90,3 @@ Decides p (Broken schedule kind line) =
 -- the number of an object's cell
 abbrev pub cell_number : Object → ℕ
 cell_number (Cell first) = first
-
--- the value that was found is a word
-abbrev pub HasWord : Evaluated → Type 0
-HasWord (Done value) = value < 4294967296
-HasWord (Broke kind line) = ⊤
