@@ -1,7 +1,8 @@
 -- Operators that group to the left, under a limit on the height.
 use Rattle.std.proofs.Common.{◌≡◌, ℕ, zero, suc, ◌+◌, ◌<◌, ◌≤◌, Bool, true, false, List, [], ◌∷◌, ◌++◌, length, Option, Some, None, refl, sym, ap, subst, ◌∙◌, inl, inr, append_assoc, arith, nat_lt}
 use Rattle.std.specs.Prelude.{if◌then◌else◌, ◌⊎◌, ◌||◌, ◌&&◌}
-use Rattle.lz_expr.specs.Reading.{Outcome, gives, refused, Reader, and_then, ◌>>=◌, shown, token, starts, Viable, Ends, shows, climb, row_of_operators}
+use Rattle.lz_expr.specs.Fronts.{Viable}
+use Rattle.lz_expr.specs.Reading.{Outcome, gives, refused, Reader, and_then, ◌>>=◌, shown, token, starts, Ends, shows, climb, row_of_operators}
 use Rattle.lz_expr.proofs.ExactLemmas.{Refused, Found, Exact}
 use Rattle.lz_expr.proofs.RowsLemmas.{Row}
 

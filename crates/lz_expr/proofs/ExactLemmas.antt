@@ -2,7 +2,9 @@
 -- same under another language, a choice by the first token, at most one.
 use Rattle.std.proofs.Common.{◌≡◌, ℕ, suc, Bool, true, false, List, [], ◌∷◌, ◌++◌, length, Option, Some, None, refl, sym, ap, subst, ◌∙◌, inl, inr, append_assoc, append-nil}
 use Rattle.std.specs.Prelude.{if◌then◌else◌, ◌⊎◌}
-use Rattle.lz_expr.specs.Reading.{Outcome, gives, refused, Reader, and_then, ◌>>=◌, pure, shown, token, starts, choice, mapped, optional, ◌⊙◌, showing, Viable, Ends}
+use Rattle.lz_tree.specs.Languages.{◌⊙◌, showing}
+use Rattle.lz_expr.specs.Fronts.{Viable}
+use Rattle.lz_expr.specs.Reading.{Outcome, gives, refused, Reader, and_then, ◌>>=◌, pure, shown, token, starts, choice, mapped, optional, Ends}
 
 -- What a reader refused: the tokens before can begin a text, and no more than the next token was looked at.
 pub record Refused {K T : Type 0} (l : T → List K → Type 0) (run : Reader K T) (ts : List K) (n : ℕ) : Type 0 where
@@ -171,19 +173,19 @@ module _ {K X T : Type 0} (la : X → List K → Type 0) (ra : Reader K X) (ga :
 module _ {K X T : Type 0} (la : X → List K → Type 0) (ra : Reader K X) (ga : X → K → Bool) (a : Exact la ra ga) (f : X → T) (l : T → List K → Type 0) (g : T → K → Bool)
     (into : (x : X) (u : List K) → la x u → l (f x) u)
     (back : (t : T) (u : List K) → l t u → (x : X) × (f x ≡ t) × la x u)
-    (goes : (x : X) (c : K) → g (f x) c ≡ ga x c) where
-  ends_into : (x : X) (left : List K) → Ends (ga x) left → Ends (g (f x)) left
-  ends_into x [] e = tt
-  ends_into x (c ∷ left) e = goes x c ∙ e
+    (goes : (x : X) (u : List K) (c : K) → la x u → g (f x) c ≡ ga x c) where
+  ends_into : (x : X) (u left : List K) → la x u → Ends (ga x) left → Ends (g (f x)) left
+  ends_into x u [] m e = tt
+  ends_into x u (c ∷ left) m e = goes x u c m ∙ e
 
-  ends_back : (x : X) (left : List K) → Ends (g (f x)) left → Ends (ga x) left
-  ends_back x [] e = tt
-  ends_back x (c ∷ left) e = sym (goes x c) ∙ e
+  ends_back : (x : X) (u left : List K) → la x u → Ends (g (f x)) left → Ends (ga x) left
+  ends_back x u [] m e = tt
+  ends_back x u (c ∷ left) m e = sym (goes x u c m) ∙ e
 
   map_sound : (ts : List K) (o : Outcome K X) → ra ts ≡ o → (t : T) (left : List K) → and_then o (λ x. pure (f x)) ≡ gives t left → Found l g ts t left
   map_sound ts (gives x mid) e t left h =
       let m = a.sound ts x mid e in
-      let found : Found l g ts (f x) mid = record { read = m.read; same = m.same; spells = into x m.read m.spells; ends = ends_into x mid m.ends } in
+      let found : Found l g ts (f x) mid = record { read = m.read; same = m.same; spells = into x m.read m.spells; ends = ends_into x m.read mid m.spells m.ends } in
       let t_is : f x ≡ t = cc in
       let left_is : mid ≡ left = cc in
       subst (λ (w : List K). Found l g ts t w) left_is (subst (λ (y : T). Found l g ts y mid) t_is found)
@@ -206,11 +208,11 @@ module _ {K X T : Type 0} (la : X → List K → Type 0) (ra : Reader K X) (ga :
   map_complete_at : (x : X) (t : T) (u rest : List K) → f x ≡ t → la x u → Ends (g t) rest → (ra >>= (λ x. pure (f x))) (u ++ rest) ≡ gives t rest
   map_complete_at x t u rest is m e =
       let P : T → Type 0 = λ y. Ends (g y) rest in
-      rw (a.complete x u rest m (ends_back x rest (subst P (sym is) e))) (ap (λ (y : T). gives y rest) is)
+      rw (a.complete x u rest m (ends_back x u rest m (subst P (sym is) e))) (ap (λ (y : T). gives y rest) is)
 
   map_on_at : (x : X) (t : T) (u : List K) (c : K) → f x ≡ t → la x u → g t c ≡ true → Viable l (u ++ c ∷ [])
   map_on_at x t u c is m e =
-      let h : ga x c ≡ true = sym (goes x c) ∙ ap (λ (y : T). g y c) is ∙ e in
+      let h : ga x c ≡ true = sym (goes x u c m) ∙ ap (λ (y : T). g y c) is ∙ e in
       let v = a.on x u c m h in
       (f v.0, v.1, into v.0 ((u ++ c ∷ []) ++ v.1) v.2)
 

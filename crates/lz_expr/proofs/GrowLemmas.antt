@@ -1,7 +1,8 @@
 -- A tree of one token that grows by each further token that it grows by, such as a type by its words.
 use Rattle.std.proofs.Common.{◌≡◌, ℕ, zero, suc, ◌+◌, ◌<◌, ◌≤◌, Bool, true, false, List, [], ◌∷◌, ◌++◌, length, Option, Some, None, refl, sym, ap, subst, ◌∙◌, inl, inr, append_assoc, append-nil, arith, length-append}
 use Rattle.std.specs.Prelude.{◌⊎◌}
-use Rattle.lz_expr.specs.Reading.{gives, refused, Reader, and_then, ◌>>=◌, shown, token, shows, grown, Viable, Ends}
+use Rattle.lz_expr.specs.Fronts.{Viable}
+use Rattle.lz_expr.specs.Reading.{gives, refused, Reader, and_then, ◌>>=◌, shown, token, shows, grown, Ends}
 use Rattle.lz_expr.proofs.ExactLemmas.{Refused, Found}
 use Rattle.lz_expr.proofs.RowsLemmas.{Row}
 

@@ -7,3 +7,13 @@ pub mod WholeLemmas
 pub mod ManyLemmas
 pub mod GrowLemmas
 pub mod TurnsLemmas
+pub mod TokensLemmas
+pub mod GoesLemmas
+pub mod TypesLemmas
+pub mod ExpressionsLemmas
+pub mod TargetsLemmas
+pub mod PrefixLemmas
+pub mod UnaryLemmas
+pub mod LevelsLemmas
+pub mod ConditionalLemmas
+pub mod HeightsLemmas

@@ -1,9 +1,16 @@
 -- Items up to a token that ends them, read by a reader with as many turns as there are tokens.
 use Rattle.std.proofs.Common.{◌≡◌, ℕ, zero, suc, ◌+◌, ◌<◌, ◌≤◌, Bool, true, false, List, [], ◌∷◌, ◌++◌, length, refl, sym, ap, subst, ◌∙◌, append_assoc, arith, length-append}
 use Rattle.std.specs.Prelude.{if◌then◌else◌}
-use Rattle.lz_expr.specs.Reading.{Outcome, gives, refused, Reader, and_then, ◌>>=◌, pure, starts, until, ◌⊙◌, Viable, Ends}
+use Rattle.lz_tree.specs.Languages.{◌⊙◌}
+use Rattle.lz_expr.specs.Fronts.{Viable}
+use Rattle.lz_expr.specs.Reading.{Outcome, gives, refused, Reader, and_then, ◌>>=◌, pure, starts, until, Ends}
 use Rattle.lz_expr.proofs.ExactLemmas.{Found, Exact, ends_append}
 use Rattle.lz_expr.proofs.RowsLemmas.{Row}
+
+-- items one behind another, and what ends them
+abbrev pub list_of : {K A B : Type 0} → (B → List K → Type 0) → (A → List K → Type 0) → List A → List K → Type 0
+list_of {B = B} lb la [] ts = (b : B) × lb b ts
+list_of lb la (x ∷ xs) ts = (la x ⊙ list_of lb la xs) ts
 
 module _ {K A B : Type 0} (p : K → Bool) (lb : B → List K → Type 0) (stop : Reader K B) (la : A → List K → Type 0) (item : Reader K A) (ga : A → K → Bool)
     (rb : Row lb stop (λ _ _. false)) (ra : Row la item ga)
@@ -11,9 +18,8 @@ module _ {K A B : Type 0} (p : K → Bool) (lb : B → List K → Type 0) (stop 
     (heads_a : (x : A) (c : K) (u : List K) → la x (c ∷ u) → p c ≡ false)
     (apart_a : (x y : A) (c : K) (u : List K) → la y (c ∷ u) → ga x c ≡ false)
     (apart_b : (x : A) (b : B) (c : K) (u : List K) → lb b (c ∷ u) → ga x c ≡ false) where
-  abbrev pub list_text : List A → List K → Type 0
-  list_text [] ts = (b : B) × lb b ts
-  list_text (x ∷ xs) ts = (la x ⊙ list_text xs) ts
+  abbrev list_text : List A → List K → Type 0
+  list_text = list_of lb la
 
   abbrev turns : ℕ → Reader K (List A)
   turns = until p stop item
@@ -235,3 +241,7 @@ module _ {K A B : Type 0} (p : K → Bool) (lb : B → List K → Type 0) (stop 
   -- the list is a row, as what ends it is
   pub row_list : Row list_text list (λ _ _. false)
   row_list = record { exact = exact_list; some = ([], rb.some.1, (rb.some.0, rb.some.2)); full = list_full }
+
+  -- the first token of a list can't continue an item before it
+  pub list_apart : (x : A) (xs : List A) (c : K) (s : List K) → list_text xs (c ∷ s) → ga x c ≡ false
+  list_apart x xs c s m = ends_item x xs (c ∷ s) [] m

@@ -1,7 +1,9 @@
 -- Items while the next token begins one, read by a reader with as many turns as there are tokens.
 use Rattle.std.proofs.Common.{◌≡◌, ℕ, zero, suc, ◌+◌, ◌<◌, ◌≤◌, Bool, true, false, List, [], ◌∷◌, ◌++◌, length, refl, sym, ap, subst, ◌∙◌, append_assoc, append-nil, arith, length-append}
 use Rattle.std.specs.Prelude.{if◌then◌else◌}
-use Rattle.lz_expr.specs.Reading.{Outcome, gives, refused, Reader, and_then, ◌>>=◌, pure, starts, many, ◌⊙◌, Viable, Ends}
+use Rattle.lz_tree.specs.Languages.{◌⊙◌}
+use Rattle.lz_expr.specs.Fronts.{Viable}
+use Rattle.lz_expr.specs.Reading.{Outcome, gives, refused, Reader, and_then, ◌>>=◌, pure, starts, many, Ends}
 use Rattle.lz_expr.proofs.ExactLemmas.{Found, Exact}
 use Rattle.lz_expr.proofs.RowsLemmas.{Row}
 

@@ -1,7 +1,9 @@
 -- Rows of tokens and parts: what is read last makes the tree.
 use Rattle.std.proofs.Common.{◌≡◌, ℕ, Bool, true, false, List, [], ◌∷◌, ◌++◌, Option, Some, refl, sym, ap, subst, ◌∙◌, inl, inr}
 use Rattle.std.specs.Prelude.{◌⊎◌}
-use Rattle.lz_expr.specs.Reading.{Outcome, gives, refused, Reader, and_then, ◌>>=◌, pure, token, choice, ◌⊙◌, showing, Viable, Ends}
+use Rattle.lz_tree.specs.Languages.{◌⊙◌, showing}
+use Rattle.lz_expr.specs.Fronts.{Viable}
+use Rattle.lz_expr.specs.Reading.{Outcome, gives, refused, Reader, and_then, ◌>>=◌, pure, token, choice, Ends}
 use Rattle.lz_expr.proofs.ExactLemmas.{Refused, Found, Exact, exact_token, exact_bind, exact_map, exact_choice}
 
 -- A token in front of a row that isn't empty.
@@ -72,7 +74,7 @@ along {X = X} l k t ts = (x : X) × (l x ⊙ k x t) ts
 
 module _ {K X T : Type 0} (l : X → List K → Type 0) (run : Reader K X) (gx : X → K → Bool) (f : X → T) (g : T → K → Bool) where
   -- the last part of a row
-  pub row_last : Row l run gx → ((x : X) (c : K) → g (f x) c ≡ gx x c) → Row (made f l) (run >>= (λ x. pure (f x))) g
+  pub row_last : Row l run gx → ((x : X) (u : List K) (c : K) → l x u → g (f x) c ≡ gx x c) → Row (made f l) (run >>= (λ x. pure (f x))) g
   row_last r goes = record {
     exact = exact_map l run gx r.exact f (made f l) g (λ x u m. (x, refl, m)) (λ t u m. m) goes;
     some = (f r.some.0, r.some.1, (r.some.0, refl, r.some.2));
@@ -117,6 +119,60 @@ module _ {K X Y T : Type 0} (l : X → List K → Type 0) (part : Reader K X) (g
           let is : d ≡ c = cc in
           apart x c y (let P : K → Type 0 = λ z. show z ≡ Some y in subst P is shown)
 
+-- A row of one token.
+pub row_one : {K T : Type 0} (show : K → Option T) (c₀ : K) (t₀ : T) → show c₀ ≡ Some t₀ → Row (showing show) (token show) (λ _ _. false)
+row_one show c₀ t₀ shows = record {
+  exact = exact_token show c₀ t₀ shows;
+  some = (t₀, c₀ ∷ [], (c₀, refl, shows));
+  full = λ t m. let e = m.1 in absurd cc;
+}
+
+-- what a row that begins with a token begins with
+pub heads_token : {K X T : Type 0} (show : K → Option X) (k : X → T → List K → Type 0) (t : T) (c : K) (u : List K) → along (showing show) k t (c ∷ u) → (x : X) × (show c ≡ Some x)
+heads_token {K = K} show k t c u (x, (v, w, same, (d, one, shown), m)) =
+    let e : c ∷ u ≡ d ∷ w = same ∙ ap (λ (z : List K). z ++ w) one in
+    let is : d ≡ c = cc in
+    (x, (let P : K → Type 0 = λ z. show z ≡ Some x in subst P is shown))
+
+-- and what one token of a text is
+pub heads_one : {K X : Type 0} (show : K → Option X) (x : X) (c : K) (u : List K) → showing show x (c ∷ u) → show c ≡ Some x
+heads_one {K = K} show x c u (d, one, shown) = let is : d ≡ c = cc in let P : K → Type 0 = λ z. show z ≡ Some x in subst P is shown
+
+pub heads_made : {K X T : Type 0} (f : X → T) (show : K → Option X) (t : T) (c : K) (u : List K) → made f (showing show) t (c ∷ u) → (x : X) × (show c ≡ Some x)
+heads_made f show t c u (x, is, m) = (x, heads_one show x c u m)
+
+-- a row that begins with a token is begun by each token that shows a value
+pub begins_token : {K X T : Type 0} (show : K → Option X) (k : X → T → List K → Type 0) (c : K) (x : X) → show c ≡ Some x → Viable (k x) [] → Viable (along (showing show) k) (c ∷ [])
+begins_token show k c x shown s = (s.0, s.1, (x, (c ∷ [], s.1, refl, (c, refl, shown), s.2)))
+
+pub begins_made : {K X T : Type 0} (f : X → T) (show : K → Option X) (c : K) (x : X) → show c ≡ Some x → Viable (made f (showing show)) (c ∷ [])
+begins_made f show c x shown = (f x, [], (x, refl, (c, refl, shown)))
+
+-- A part, and a row behind it that can't continue the part.
+module _ {K X T : Type 0} (l : X → List K → Type 0) (part : Reader K X) (gx : X → K → Bool) (k : X → T → List K → Type 0) (run : X → Reader K T) (g : T → K → Bool) where
+  then_full : Row l part gx → (t : T) → along l k t [] → ⊥
+  then_full r t (x, (u, v, same, m, n)) = go u v same m
+    where
+      go : (u v : List K) → [] ≡ u ++ v → l x u → ⊥
+      go [] v same m = r.full x m
+      go (c ∷ u) v same m = absurd cc
+
+  pub row_then : Row l part gx → ((x : X) → Row (k x) (run x) g) → ((x : X) (t : T) (c : K) (s : List K) → k x t (c ∷ s) → gx x c ≡ false) → Row (along l k) (part >>= run) g
+  row_then r rest apart = record {
+    exact = exact_behind_part l part gx k run g r.exact (λ x. (rest x).exact) (λ x. (rest x).some) (λ x t m. (rest x).full t m) apart;
+    some = (let a = r.some in let s = (rest a.0).some in (s.0, a.1 ++ s.1, (a.0, (a.1, s.1, refl, a.2, s.2))));
+    full = then_full r;
+  }
+
+-- A part, and a token behind it that ends the row.
+module _ {K X Y T : Type 0} (l : X → List K → Type 0) (part : Reader K X) (gx : X → K → Bool) (show : K → Option Y) (f : X → Y → T) (g : T → K → Bool) where
+  pub row_close : Row l part gx → (c₀ : K) (y₀ : Y) → show c₀ ≡ Some y₀ → ((x : X) (c : K) (y : Y) → show c ≡ Some y → gx x c ≡ false) → ((x : X) (y : Y) (c : K) → g (f x y) c ≡ false)
+      → Row (along l (λ x. made (f x) (showing show))) (part >>= (λ x. token show >>= (λ y. pure (f x y)))) g
+  row_close r c₀ y₀ shown apart ends =
+      row_then l part gx (λ x. made (f x) (showing show)) (λ x. token show >>= (λ y. pure (f x y))) g r
+      (λ x. row_last (showing show) (token show) (λ _ _. false) (f x) g (row_one show c₀ y₀ shown) (λ y u c m. ends x y c))
+      (λ x t c s m. let h = heads_made (f x) show t c s m in apart x c h.0 h.1)
+
 -- One of two rows, by the first token; the first row need be one only where a token chooses it.
 module _ {K T : Type 0} (p : K → Bool) (la lb : T → List K → Type 0) (ra rb : Reader K T) (g : T → K → Bool)
     (a : (c : K) → p c ≡ true → Row la ra g) (b : Row lb rb g)
@@ -146,7 +202,7 @@ row_same l run other g a same = record { exact = exact_same l run other g a.exac
 module _ {K X T : Type 0} (la : X → List K → Type 0) (ra : Reader K X) (ga : X → K → Bool) (a : Row la ra ga) (f : X → T) (l : T → List K → Type 0) (g : T → K → Bool)
     (into : (x : X) (u : List K) → la x u → l (f x) u)
     (back : (t : T) (u : List K) → l t u → (x : X) × (f x ≡ t) × la x u)
-    (goes : (x : X) (c : K) → g (f x) c ≡ ga x c) where
+    (goes : (x : X) (u : List K) (c : K) → la x u → g (f x) c ≡ ga x c) where
   pub row_map : Row l (ra >>= (λ x. pure (f x))) g
   row_map = record {
     exact = exact_map la ra ga a.exact f l g into back goes;
@@ -158,35 +214,27 @@ module _ {K X T : Type 0} (la : X → List K → Type 0) (ra : Reader K X) (ga :
 module _ {K T : Type 0} (la : T → List K → Type 0) (run : Reader K T) (g h : T → K → Bool) (a : Row la run g) (l : T → List K → Type 0)
     (into : (t : T) (u : List K) → la t u → l t u)
     (back : (t : T) (u : List K) → l t u → la t u)
-    (goes : (t : T) (c : K) → h t c ≡ g t c) where
-  ends_to : (t : T) (left : List K) → Ends (g t) left → Ends (h t) left
-  ends_to t [] e = tt
-  ends_to t (c ∷ left) e = goes t c ∙ e
+    (goes : (t : T) (u : List K) (c : K) → la t u → h t c ≡ g t c) where
+  ends_to : (t : T) (u left : List K) → la t u → Ends (g t) left → Ends (h t) left
+  ends_to t u [] m e = tt
+  ends_to t u (c ∷ left) m e = goes t u c m ∙ e
 
-  ends_from : (t : T) (left : List K) → Ends (h t) left → Ends (g t) left
-  ends_from t [] e = tt
-  ends_from t (c ∷ left) e = sym (goes t c) ∙ e
+  ends_from : (t : T) (u left : List K) → la t u → Ends (h t) left → Ends (g t) left
+  ends_from t u [] m e = tt
+  ends_from t u (c ∷ left) m e = sym (goes t u c m) ∙ e
 
   pub row_of : Row l run h
   row_of = record {
     exact = record {
-      sound = λ ts t left e. let f = a.exact.sound ts t left e in record { read = f.read; same = f.same; spells = into t f.read f.spells; ends = ends_to t left f.ends };
-      complete = λ t u rest m e. a.exact.complete t u rest (back t u m) (ends_from t rest e);
+      sound = λ ts t left e. let f = a.exact.sound ts t left e in record { read = f.read; same = f.same; spells = into t f.read f.spells; ends = ends_to t f.read left f.spells f.ends };
+      complete = λ t u rest m e. a.exact.complete t u rest (back t u m) (ends_from t u rest (back t u m) e);
       refuses = λ ts n e. let f = a.exact.refuses ts n e in
           record { read = f.read; left = f.left; same = f.same; count = f.count; viable = (f.viable.0, f.viable.1, into f.viable.0 (f.read ++ f.viable.1) f.viable.2); local = f.local };
-      on = λ t u c m e. let v = a.exact.on t u c (back t u m) (sym (goes t c) ∙ e) in (v.0, v.1, into v.0 ((u ++ c ∷ []) ++ v.1) v.2);
+      on = λ t u c m e. let v = a.exact.on t u c (back t u m) (sym (goes t u c (back t u m)) ∙ e) in (v.0, v.1, into v.0 ((u ++ c ∷ []) ++ v.1) v.2);
     };
     some = (a.some.0, a.some.1, into a.some.0 a.some.1 a.some.2);
     full = λ t m. a.full t (back t [] m);
   }
-
--- A row of one token.
-pub row_one : {K T : Type 0} (show : K → Option T) (c₀ : K) (t₀ : T) → show c₀ ≡ Some t₀ → Row (showing show) (token show) (λ _ _. false)
-row_one show c₀ t₀ shows = record {
-  exact = exact_token show c₀ t₀ shows;
-  some = (t₀, c₀ ∷ [], (c₀, refl, shows));
-  full = λ t m. let e = m.1 in absurd cc;
-}
 
 -- ---- a tree with the line of its first token
 

@@ -1,7 +1,8 @@
 -- A tree, and more behind it where the tree allows it and the next token begins it: what follows a target, a test or an `if`.
 use Rattle.std.proofs.Common.{◌≡◌, ℕ, Bool, true, false, List, [], ◌∷◌, ◌++◌, refl, sym, ap, subst, ◌∙◌, inl, inr, append_assoc}
 use Rattle.std.specs.Prelude.{if◌then◌else◌, ◌⊎◌, ◌||◌, ◌&&◌}
-use Rattle.lz_expr.specs.Reading.{Outcome, gives, refused, Reader, and_then, ◌>>=◌, starts, Viable, Ends}
+use Rattle.lz_expr.specs.Fronts.{Viable}
+use Rattle.lz_expr.specs.Reading.{Outcome, gives, refused, Reader, and_then, ◌>>=◌, starts, Ends}
 use Rattle.lz_expr.proofs.ExactLemmas.{Refused, Found, Exact, ends_append}
 use Rattle.lz_expr.proofs.RowsLemmas.{Row}
 

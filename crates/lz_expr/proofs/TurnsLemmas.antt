@@ -1,6 +1,7 @@
 -- A reader that recurs by a number of turns, read with more turns than there are tokens.
 use Rattle.std.proofs.Common.{◌≡◌, ℕ, zero, suc, ◌+◌, ◌<◌, Bool, true, List, [], ◌∷◌, ◌++◌, length, refl, sym, ap, ◌∙◌, arith, length-append}
-use Rattle.lz_expr.specs.Reading.{gives, refused, Reader, Viable}
+use Rattle.lz_expr.specs.Fronts.{Viable}
+use Rattle.lz_expr.specs.Reading.{gives, refused, Reader}
 use Rattle.lz_expr.proofs.ExactLemmas.{Refused, Found}
 use Rattle.lz_expr.proofs.RowsLemmas.{Row}
 

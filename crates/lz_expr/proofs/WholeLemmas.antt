@@ -1,6 +1,7 @@
 -- What exactness says of a whole input: the answer is the only tree, or the first token that can't stand.
 use Rattle.std.proofs.Common.{◌≡◌, ℕ, suc, Bool, true, false, List, [], ◌∷◌, ◌++◌, length, refl, sym, ap, subst, ◌∙◌, append-nil, append_assoc}
-use Rattle.lz_expr.specs.Reading.{gives, refused, Reader, Viable, Ends}
+use Rattle.lz_expr.specs.Fronts.{Viable}
+use Rattle.lz_expr.specs.Reading.{gives, refused, Reader, Ends}
 use Rattle.lz_expr.proofs.ExactLemmas.{Refused, Found, Exact}
 
 module _ {K T : Type 0} (l : T → List K → Type 0) (run : Reader K T) (g : T → K → Bool) (a : Exact l run g) where

@@ -49,18 +49,6 @@ optional p a = λ ts. if starts p ts then mapped Some (a ts) else gives None ts
 
 -- ---- languages: which values which tokens spell
 
-infixr 11 ◌⊙◌
--- a text of the first kind, and then one of the second
-abbrev pub ◌⊙◌ : {K : Type 0} → (List K → Type 0) → (List K → Type 0) → List K → Type 0
-◌⊙◌ {K = K} a b ts = (u v : List K) × (ts ≡ u ++ v) × a u × b v
-
-abbrev pub showing : {K A : Type 0} → (K → Option A) → A → List K → Type 0
-showing {K = K} show x ts = (c : K) × (ts ≡ c ∷ []) × (show c ≡ Some x)
-
--- the tokens begin a text
-abbrev pub Viable : {K T : Type 0} → (T → List K → Type 0) → List K → Type 0
-Viable {K = K} {T = T} l u = (t : T) × (s : List K) × l t (u ++ s)
-
 -- none of these tokens comes first
 abbrev pub Ends : {K : Type 0} → (K → Bool) → List K → Type 0
 Ends p [] = Unit {0}

@@ -6,3 +6,4 @@ pub mod WellFormed
 pub mod Lengths
 pub mod Steps
 pub mod Weight
+pub mod Example

@@ -7,3 +7,6 @@ mod encode;
 mod rounds;
 
 pub use rounds::sequentialize;
+
+#[cfg(test)]
+mod tests;

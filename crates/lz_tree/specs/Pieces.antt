@@ -1,7 +1,7 @@
 -- Trusted: the pieces that the bytes of a file are cut into (C99 6.4): which piece some bytes are, if they are one.
-use Rattle.std.specs.Prelude.{ℕ, ◌+◌, ◌-◌, ◌^◌, ◌==◌, nat_le, nat_lt, Bool, true, false, not, ◌&&◌, ◌||◌, List, [], ◌∷◌, length, take, drop, codes, if◌then◌else◌, Option, Some, None, is_some, option_map, find}
+use Rattle.std.specs.Prelude.{ℕ, ◌^◌, ◌==◌, nat_le, nat_lt, Bool, true, false, not, ◌&&◌, ◌||◌, List, [], ◌∷◌, length, take, drop, codes, if◌then◌else◌, Option, Some, None, is_some, option_map, find}
 use Rattle.std.specs.Char.{is_ascii_digit, is_ascii_hexdigit, is_ascii_alphabetic}
-use Rattle.std.specs.List.{list_all, list_any, prefix_len, starts_with}
+use Rattle.std.specs.List.{list_all, prefix_len, starts_with}
 use Rattle.std.specs.Option.{option_and_then, option_or}
 use Rattle.std.specs.Str.{bytes_eq}
 use Rattle.std.specs.Str.Parse.{digits_value}
@@ -329,11 +329,16 @@ pub record Read : Type 0 where
 abbrev pub read : ConstantPiece → List ℕ → Read
 read constant rest = record { constant = constant; rest = rest }
 
+-- the character constant at the front
+unfoldable pub character_at : List ℕ → Option Read
+character_at bytes =
+    option_or (option_map (λ c. read c (drop 3 bytes)) (character_of (take 3 bytes)))
+    (option_map (λ c. read c (drop 4 bytes)) (character_of (take 4 bytes)))
+
 -- the integer or character constant at the front
 unfoldable pub constant_at : List ℕ → Option Read
 constant_at bytes =
-    if begins (is 39) bytes
-    then option_or (option_map (λ c. read c (drop 3 bytes)) (character_of (take 3 bytes))) (option_map (λ c. read c (drop 4 bytes)) (character_of (take 4 bytes)))
+    if begins (is 39) bytes then character_at bytes
     else option_map (λ c. read c (drop (prefix_len is_word_byte bytes) bytes)) (integer_of (take (prefix_len is_word_byte bytes) bytes))
 
 abbrev pub body : Bool → Bool → ConstantPiece → Body

@@ -1,18 +1,16 @@
 -- Trusted: the tokens of a file: its bytes are cut from the front, each piece the longest that can stand where it
 -- begins, and defined names are replaced (C99 6.4, 6.10.3).
-use Rattle.std.specs.Prelude.{◌≡◌, ℕ, zero, suc, ◌+◌, ◌-◌, ◌==◌, Bool, true, false, not, ◌&&◌, ◌||◌, List, [], ◌∷◌, ◌++◌, length, take, drop, map, count_by, if◌then◌else◌, Option, Some, None, find, option_map}
+use Rattle.std.specs.Prelude.{◌≡◌, ℕ, zero, suc, ◌+◌, ◌-◌, Bool, true, false, not, ◌&&◌, ◌||◌, List, [], ◌∷◌, ◌++◌, length, take, drop, map, count_by, if◌then◌else◌, Option, Some, None, find, option_map}
 use Rattle.std.specs.List.{list_any}
 use Rattle.std.specs.Str.{bytes_eq}
-use Rattle.lz_tree.specs.declared.token.Form.{Form}
 use Rattle.lz_tree.specs.declared.token.Keyword.{Keyword}
 use Rattle.lz_tree.specs.declared.token.Keyword.TheVariants as keys
-use Rattle.lz_tree.specs.declared.token.Punct.{Punct}
 use Rattle.lz_tree.specs.declared.token.Punct.TheVariants as marks
 use Rattle.lz_tree.specs.declared.token.Token.{Token}
 use Rattle.lz_tree.specs.declared.token.TokenKind.{TokenKind}
 use Rattle.lz_tree.specs.declared.token.TokenKind.TheVariants as kinds
 use Rattle.lz_tree.specs.declared.token.Tokens.{Tokens}
-use Rattle.lz_tree.specs.Pieces.{Piece, white, block_comment, line_comment, include, define, word, integer, character, text, mark, Body, ConstantPiece, piece_of, keyword_of, begins, is, is_newline, is_blank, is_word_byte}
+use Rattle.lz_tree.specs.Pieces.{Piece, white, line_comment, include, define, word, integer, character, text, mark, Body, ConstantPiece, piece_of, keyword_of, begins, is, is_newline, is_blank, is_word_byte}
 
 -- A name that a directive defined, with its body.
 pub record Definition : Type 0 where

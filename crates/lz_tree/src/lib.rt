@@ -16,3 +16,6 @@ pub use operator::{Binary, Unary};
 pub use program::{External, Externals, Lead, Param, Params, Program};
 pub use statement::{Declarator, Declarators, First, Objects, Stmt, Stmts};
 pub use token::{Form, Keyword, Names, Punct, Token, TokenKind, TokenList, Tokens};
+
+#[cfg(test)]
+mod tests;

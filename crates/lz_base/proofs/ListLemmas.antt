@@ -1,10 +1,7 @@
--- Searches in a list: for an item that meets a fact, and for one that does not.
+-- Facts on lists that the library lacks: searches for an item that meets a fact, and for one that does not.
 use Rattle.std.proofs.Common.{◌≡◌, ℕ, ◌+◌, ◌<◌, ◌≤◌, List, Bool, length, get_or, subst, sym, ap, ◌∙◌, arith, below_more}
 use Rattle.std.specs.List.{All, Any}
 use Rattle.std.proofs.lemmas.List.{get_or_default}
-use Rattle.lz_cnf.specs.declared.clause.Lit.{Lit}
-use Rattle.lz_cnf.specs.declared.clause.Cnf.{Cnf}
-use Rattle.lz_cnf.specs.Models.{IsTrueLit, IsModel}
 
 -- no item before this place meets the fact
 pub record NoneBefore {A : Type 0} (P : A → Type 0) (xs : List A) (i : ℕ) : Type 0 where
@@ -41,21 +38,3 @@ all_more {A} P xs i d before lt here = record {
 -- every item is before the end
 pub all_all : {A : Type 0} (P : A → Type 0) (xs : List A) (i : ℕ) → AllBefore P xs i → length xs ≤ i → All P xs
 all_all P xs i before le k x lt = before.all k (omega arith) x
-
--- the values and the clauses that were lent
-pub model_is : (formula : Cnf) (model values : List Bool) (clauses : List (List Lit)) (i : ℕ) → values ≡ model → clauses ≡ formula.clauses → length model ≡ formula.variables
-    → AllBefore (λ (clause : List Lit). Any (IsTrueLit values) clause) clauses i → length clauses ≤ i → IsModel formula model
-model_is formula model values clauses i lent lent_too whole before le = record {
-  whole = whole;
-  clauses = subst (λ (vs : List Bool). All (λ (clause : List Lit). Any (IsTrueLit vs) clause) formula.clauses) lent
-      (subst (λ (cs : List (List Lit)). All (λ (clause : List Lit). Any (IsTrueLit values) clause) cs) lent_too
-      (all_all (λ (clause : List Lit). Any (IsTrueLit values) clause) clauses i before le));
-}
-
--- a clause without a true literal
-pub no_model : (formula : Cnf) (model values : List Bool) (clauses : List (List Lit)) (i : ℕ) (clause own : List Lit) → values ≡ model → clauses ≡ formula.clauses → i < length clauses
-    → own ≡ clause → clause ≡ get_or clauses i clause → (Any (IsTrueLit values) own → ⊥) → IsModel formula model → ⊥
-no_model formula model values clauses i clause own lent lent_too lt same is none model_is =
-    none (subst (λ (vs : List Bool). Any (IsTrueLit vs) own) (sym lent)
-    (subst (λ (xs : List Lit). Any (IsTrueLit model) xs) (sym (same ∙ is ∙ ap (λ (cs : List (List Lit)). get_or cs i clause) lent_too))
-    (model_is.clauses i clause (subst (λ (cs : List (List Lit)). i < length cs) lent_too lt))))
