@@ -1,8 +1,8 @@
-use Rattle.std.proofs.Common.{arith, ap, ◌∙◌, ℕ, ◌+◌, ◌<◌, ◌≡◌, sym, subst, List, ◌∷◌, ◌++◌, [], length}
+use Rattle.std.proofs.Common.{arith, ap, ◌∙◌, ◌<◌, sym, subst, List, ◌∷◌, ◌++◌, [], length}
 use Rattle.std.specs.List.{All}
 use Rattle.lz_cnf.specs.declared.clause.Lit.{Lit}
 use Rattle.lz_cnf.specs.Models.{variable_of}
-use Rattle.lz_gates.proofs.Gate.{variable_of-negated, variable_of-positive}
+use Rattle.lz_gates.proofs.Gate.{variable_of-positive}
 use Rattle.lz_gates.proofs.Lists.{below_two, negated_below}
 use Rattle.lz_arith.proofs.Truth.{tests_none, tests_more, tests_all, long_clause}
 use Rattle.lz_arith.proofs.nonzero.truth_test.Goals as goal
