@@ -100,7 +100,7 @@ bit_more false v w e = e ∙ ap not half
     half = grind (arith, nat_tests)
 
 -- some bit is true exactly where the word is not 0
-clause_word : (a : Assignment) (xs : List Lit) → clause_value a xs ≡ not (eqb (word a xs) 0)
+pub clause_word : (a : Assignment) (xs : List Lit) → clause_value a xs ≡ not (eqb (word a xs) 0)
 unfolding clause_value word
 clause_word a [] = refl
 clause_word a (x ∷ xs) = bit_more (value a x) (clause_value a xs) (word a xs) (clause_word a xs)
