@@ -8,7 +8,8 @@ use Rattle.lz_model.specs.Violation.{Violated}
 use Rattle.lz_cli.specs.declared.ending.Ending.{Ending}
 use Rattle.lz_cli.specs.declared.ending.Ending.TheVariants.{Successful, Failed, NotBuilt, FileTooLong, ReadFault, OutOfMemory}
 use Rattle.lz_cli.specs.CommandLine.{IsFileName}
-use Rattle.lz_cli.specs.Endings.{Call, defaults}
+use Rattle.lz_cli.specs.Limits.{defaults}
+use Rattle.lz_cli.specs.Ending.{Call}
 
 -- the words name a file that the folder tells, with this content, and no read failed
 pub record IsToldFile (call : Call) (content : List ℕ) : Type 0 where
@@ -19,7 +20,7 @@ pub record IsToldFile (call : Call) (content : List ℕ) : Type 0 where
 
 -- the ending tells whether the program is violated, or that memory ran out
 abbrev pub IsDecided : Program → Ending → Type 0
-IsDecided p (Successful unwind rounds) = Violated p defaults.unwind defaults.rounds → ⊥
+IsDecided p (Successful unwind rounds formula log) = Violated p defaults.unwind defaults.rounds → ⊥
 IsDecided p (Failed kind line schedule) = Violated p defaults.unwind defaults.rounds
 IsDecided p (NotBuilt line) = ⊥
 IsDecided p FileTooLong = ⊥
@@ -28,7 +29,7 @@ IsDecided p OutOfMemory = ⊤
 
 -- the ending is this one, or that memory ran out
 abbrev pub IsEither : Ending → Ending → Type 0
-IsEither expected (Successful unwind rounds) = expected ≡ Successful unwind rounds
+IsEither expected (Successful unwind rounds formula log) = expected ≡ Successful unwind rounds formula log
 IsEither expected (Failed kind line schedule) = expected ≡ Failed kind line schedule
 IsEither expected (NotBuilt line) = expected ≡ NotBuilt line
 IsEither expected FileTooLong = expected ≡ FileTooLong

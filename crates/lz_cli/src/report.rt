@@ -1,12 +1,13 @@
 //! The text of a report.
 
-ghost use Rattle.std.specs.Prelude.{◌≡◌, ◌<◌, ◌++◌, codes, OnOk, IfOk, List};
+ghost use Rattle.std.specs.Prelude.{◌≡◌, ◌<◌, ◌^◌, ◌++◌, codes, OnOk, IfOk, List};
 ghost use Rattle.std.specs.List.{flat_map};
 ghost use Rattle.std.specs.Fmt.{decimal};
 ghost use Rattle.lz_model.specs.Rounds.{rounds_of, threads_of};
-ghost use Rattle.lz_cli.specs.Report.{report, kind_word, step_line, status_of, IsPrintable};
+ghost use Rattle.lz_cli.specs.Report.{report, success_line, kind_word, step_line, status_of, IsPrintable};
 
 use crate::ending::Ending;
+use crate::limits::FILE_LIMIT;
 use itoa::Buffer;
 use lz_base::{BreakKind, Bytes, Memory, Name};
 use lz_model::{Schedule, Step, rounds};
@@ -18,7 +19,12 @@ pub fn print(alloc: Global, ending: &Ending) -> Result<Bytes, Memory>
     ensures { IfOk result (λ text. text ≡ report ending.now) }
 {
     match ending {
-        Ending::Successful { unwind, rounds } => successful(alloc, *unwind, *rounds),
+        Ending::Successful {
+            unwind,
+            rounds,
+            formula: _,
+            log: _,
+        } => successful(alloc, *unwind, *rounds),
         Ending::Failed {
             kind,
             line,
@@ -32,7 +38,7 @@ pub fn print(alloc: Global, ending: &Ending) -> Result<Bytes, Memory>
 }
 
 fn successful(alloc: Global, unwind: u32, rounds: u32) -> Result<Bytes, Memory>
-    ensures { IfOk result (λ text. text ≡ report (Ending.Successful unwind rounds)) }
+    ensures { IfOk result (λ text. text ≡ success_line unwind rounds) }
 {
     let mut text = Bytes::new(alloc);
     text.append(b"SUCCESSFUL unwind ")?;
@@ -44,7 +50,7 @@ fn successful(alloc: Global, unwind: u32, rounds: u32) -> Result<Bytes, Memory>
 }
 
 fn failed(alloc: Global, kind: BreakKind, line: u32, schedule: &Schedule) -> Result<Bytes, Memory>
-    requires { rounds_of (threads_of schedule.now) < 4294967296 }
+    requires { rounds_of (threads_of schedule.now) < 2 ^ 32 }
     ensures { IfOk result (λ text. text ≡ report (Ending.Failed kind line schedule.now)) }
 {
     let mut text = Bytes::new(alloc);
@@ -73,7 +79,9 @@ fn file_too_long(alloc: Global) -> Result<Bytes, Memory>
     ensures { IfOk result (λ text. text ≡ report Ending.FileTooLong) }
 {
     let mut text = Bytes::new(alloc);
-    text.append(b"LIMIT file over 1048576 bytes\n")?;
+    text.append(b"LIMIT file over ")?;
+    append_number(&mut text, FILE_LIMIT)?;
+    text.append(b" bytes\n")?;
     Ok(text)
 }
 
@@ -150,6 +158,8 @@ pub fn status(ending: &Ending) -> u8
         Ending::Successful {
             unwind: _,
             rounds: _,
+            formula: _,
+            log: _,
         } => 0,
         Ending::Failed {
             kind: _,

@@ -1,5 +1,6 @@
 -- Trusted: the trees of a program as definitions read them, without pointers and capacities.
-use Rattle.std.specs.Prelude.{ℕ, Bool, List, [], ◌∷◌, map, Option, option_map}
+use Rattle.std.specs.Prelude.{ℕ, Bool, List, [], ◌∷◌, map, Option, Some, None, option_map, Box}
+use Rattle.std.specs.declared.alloc.Global.{Global}
 use Rattle.lz_tree.specs.declared.operator.Unary.{Unary}
 use Rattle.lz_tree.specs.declared.operator.Binary.{Binary}
 use Rattle.lz_tree.specs.declared.token.Form.{Form}
@@ -73,6 +74,11 @@ abbrev mutual
   expressions end_of-Expr = none
   expressions (more_of-Expr e rest) = and (expression e) (expressions rest)
 
+-- what the index of an object that stands by itself is
+abbrev pub index_of : Option (Box Expr Global) → Index
+index_of None = whole
+index_of (Some e) = element (expression e.value)
+
 -- expressions in a list
 abbrev pub expressions_of : List Expression → Expressions
 expressions_of [] = none
@@ -84,7 +90,7 @@ expressions_of (e ∷ rest) = and e (expressions_of rest)
 -- last, or that of a mutex or of a condition.
 pub data Initializer : Type 0 where
   nothing : Initializer
-  value : (value : Expression) → Initializer
+  single : (of : Expression) → Initializer
   listed : (values : Expressions) (comma : Bool) → Initializer
   mutex : Initializer
   cond : Initializer
@@ -105,7 +111,7 @@ pub record Declaration : Type 0 where
 -- what an initializer is without its pointers
 abbrev pub initializer : First → Initializer
 initializer first.Nothing = nothing
-initializer (first.Value e) = value (expression e)
+initializer (first.Value e) = single (expression e)
 initializer (first.Listed values comma) = listed (expressions_of (map expression values.items)) comma
 initializer first.Mutex = mutex
 initializer first.Cond = cond
@@ -181,6 +187,11 @@ abbrev mutual
   pub statements : {m : _} → Row_of-Stmt m → Statements
   statements end_of-Stmt = nil
   statements (more_of-Stmt s rest) = cons (statement s) (statements rest)
+
+-- what a branch that stands by itself is
+abbrev pub branch_of : Option (Box Stmt Global) → Branch
+branch_of None = absent
+branch_of (Some s) = branch (statement s.value)
 
 -- statements in a list
 abbrev pub statements_of : List Statement → Statements

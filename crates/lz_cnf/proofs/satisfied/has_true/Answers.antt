@@ -1,7 +1,7 @@
 use Rattle.std.proofs.Common.{IsTrue, subst, Bool}
 use Rattle.std.proofs.lemmas.Bool.{false≢true}
 use Rattle.lz_cnf.specs.Models.{IsTrueLit}
-use Rattle.lz_cnf.proofs.Searching.{none_first, none_more, none_all}
+use Rattle.lz_base.proofs.ListLemmas.{none_first, none_more, none_all}
 use Rattle.lz_cnf.proofs.satisfied.has_true.Goals as goal
 
 pub loop-lit-init : goal.loop-lit-init

@@ -3,7 +3,8 @@ use Rattle.std.proofs.lemmas.Bool.{false≢true}
 use Rattle.std.specs.List.{Any}
 use Rattle.lz_cnf.specs.declared.clause.Lit.{Lit}
 use Rattle.lz_cnf.specs.Models.{IsTrueLit}
-use Rattle.lz_cnf.proofs.Searching.{all_first, all_more, model_is, no_model}
+use Rattle.lz_base.proofs.ListLemmas.{all_first, all_more}
+use Rattle.lz_cnf.proofs.SatisfiedLemmas.{model_is, no_model}
 use Rattle.lz_cnf.proofs.clause.Cnf.satisfied_by.Goals as goal
 
 pub loop-clause-init : goal.loop-clause-init

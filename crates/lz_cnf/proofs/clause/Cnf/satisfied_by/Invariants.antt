@@ -2,7 +2,7 @@ use Rattle.std.specs.List.{Any}
 use Rattle.lz_cnf.specs.Models.{IsTrueLit}
 use Rattle.lz_cnf.specs.declared.clause.Lit.{Lit}
 use Rattle.std.proofs.Common.{List}
-use Rattle.lz_cnf.proofs.Searching.{AllBefore}
+use Rattle.lz_base.proofs.ListLemmas.{AllBefore}
 use Rattle.lz_cnf.proofs.clause.Cnf.satisfied_by.Given as goal
 
 abbrev pub invariant-loop-clause : goal.invariant-loop-clause

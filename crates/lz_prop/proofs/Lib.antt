@@ -1,0 +1,12 @@
+pub mod LitLemmas
+pub mod EntryLemmas
+pub mod TrailLemmas
+pub mod BackLemmas
+pub mod StandingLemmas
+pub mod StoreLemmas
+pub mod StoredLemmas
+pub mod SettledLemmas
+pub mod TableLemmas
+pub mod TabledLemmas
+pub mod KeptLemmas
+pub mod VisitLemmas

@@ -1,0 +1,32 @@
+-- Inner: how a trail is kept, what it stands for, and what holds of its parts.
+use Rattle.std.specs.Prelude.{◌≡◌, ◌*◌, ◌≤◌, length}
+use Rattle.std.specs.Vec.{vec_capacity}
+use Rattle.lz_prop.specs.declared.inner.Inner.{Inner}
+use Rattle.lz_prop.specs.Trail.{TrailState, IsTrail}
+use Rattle.lz_prop.specs.Settled.{AreSettled}
+use Rattle.lz_prop.specs.Parts.{entries, IsTable, AreStarts}
+use Rattle.lz_prop.specs.Stored.{IsStore, clauses_of}
+
+-- what the parts stand for
+abbrev pub state_of : Inner → TrailState
+state_of t = record {
+  variables = t.variables;
+  clauses = clauses_of t.store;
+  set = entries t.table.levels.items t.table.reasons.items t.table.order.items;
+  level = length t.starts.items;
+  spent = t.spent;
+}
+
+-- what holds of the parts
+pub record IsKept (t : Inner) : Type 0 where
+  pub trail : IsTrail (state_of t)
+  pub store : IsStore t.store
+  pub lasts_long : length t.store.lasts.items ≡ 2 * t.variables
+  pub table : IsTable t.variables t.table.truths.items t.table.levels.items t.table.reasons.items t.table.order.items
+  pub starts : AreStarts (state_of t).set t.starts.items
+  pub settled : AreSettled (state_of t).clauses t.table.order.items t.head t.seen
+  pub head_within : t.head ≤ length t.table.order.items
+  pub seen_within : t.seen ≤ length (clauses_of t.store)
+  pub few : t.variables ≤ 2147483648
+  pub order_room : t.variables ≤ vec_capacity t.table.order
+  pub starts_room : t.variables ≤ vec_capacity t.starts

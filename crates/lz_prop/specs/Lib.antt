@@ -1,0 +1,10 @@
+pub mod Trail
+pub mod Settled
+pub mod Parts
+pub mod Stored
+pub mod Tabled
+pub mod Kept
+pub mod Further
+pub mod Visit
+pub mod Standing
+pub mod Outcome
