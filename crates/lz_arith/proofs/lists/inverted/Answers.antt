@@ -1,7 +1,6 @@
-use Rattle.std.proofs.Common.{◌≡◌, ℕ, ap, ◌∙◌, sym, arith, List, ◌++◌, ◌∷◌, [], take, get_or, length}
+use Rattle.std.proofs.Common.{ap, ◌∙◌, sym, List, ◌++◌, ◌∷◌, [], take}
 use Rattle.std.proofs.lemmas.List.{take_more, take_all}
 use Rattle.lz_cnf.specs.declared.clause.Lit.{Lit}
-use Rattle.lz_cnf.specs.Models.{negated}
 use Rattle.lz_arith.specs.Bits.{negations}
 use Rattle.lz_arith.proofs.Dividing.{negations_push}
 use Rattle.lz_arith.proofs.lists.inverted.Goals as goal
