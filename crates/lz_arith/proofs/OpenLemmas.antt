@@ -5,12 +5,11 @@ use Rattle.std.proofs.lemmas.List.{take_more, take_all, length_push, get_or_push
 use Rattle.std.proofs.lemmas.List.Elements.{All-push}
 use Rattle.lz_cnf.specs.declared.clause.Lit.{Lit}
 use Rattle.lz_cnf.specs.Models.{variable_of}
-use Rattle.lz_gates.specs.Circuits.{Circuit, Assignment, value, clause_value, IsLit, AreLits, Satisfies, IsCircuit, Makes}
+use Rattle.lz_gates.specs.Circuits.{Circuit, Assignment, value, clause_value, IsLit, AreLits, Satisfies, Makes}
 use Rattle.lz_gates.proofs.Extending.{makes_so, makes_same, still}
 use Rattle.lz_gates.proofs.Folds.{value-same}
-use Rattle.lz_arith.specs.Bits.{bit, word, copies}
+use Rattle.lz_arith.specs.Bits.{word, copies}
 use Rattle.lz_arith.specs.Open.{IsOpen}
-use Rattle.lz_arith.proofs.Shifting.{take_in}
 use Rattle.lz_arith.proofs.Truth.{clause_word}
 
 or_assoc : (x y z : Bool) → (x || (y || z)) ≡ ((x || y) || z)

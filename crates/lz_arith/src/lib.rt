@@ -14,3 +14,6 @@ mod shift;
 
 pub use lists::Bits;
 pub use operators::{binary_bits, choose_bits, convert_bits, unary_bits};
+
+#[cfg(test)]
+mod tests;

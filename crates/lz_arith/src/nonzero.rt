@@ -7,7 +7,7 @@ ghost use Rattle.lz_arith.specs.Open.{IsOpen};
 use crate::lists::{Bits, one_before, repeated};
 use lz_base::Memory;
 use lz_cnf::Lit;
-use lz_gates::{Builder, negation};
+use lz_gates::Builder;
 use std::alloc::Global;
 
 /// Adds the literal, unless it is the false one.
@@ -47,9 +47,9 @@ fn new_test(alloc: Global, builder: &mut Builder, bits: &[Lit]) -> Result<Lit, M
 {
     let test = builder.fresh()?;
     for i in 0..bits.len() {
-        builder.require(&[negation(bits[i]), test])?;
+        builder.require(&[bits[i].negated(), test])?;
     }
-    let some = one_before(alloc, negation(test), bits)?;
+    let some = one_before(alloc, test.negated(), bits)?;
     builder.require(some.items())?;
     Ok(test)
 }

@@ -17,7 +17,7 @@ use crate::product::multiply;
 use crate::shift::{shift_down, shift_up};
 use lz_base::{Binary, IntType, Memory, Unary};
 use lz_cnf::Lit;
-use lz_gates::{Builder, negation};
+use lz_gates::Builder;
 use std::alloc::Global;
 
 /// The word of a truth value: the literal, and 31 that are false.
@@ -40,7 +40,7 @@ fn not_word(alloc: Global, builder: &mut Builder, bits: &[Lit]) -> Result<Bits, 
     ensures made { IfOk result (λ r. Makes builder.old builder.new 1 33 (λ a. word a r ≡ truth (word a bits.now == 0))) }
 {
     let test = truth_test(alloc, builder, bits)?;
-    let result = truth_word(alloc, builder, negation(test))?;
+    let result = truth_word(alloc, builder, test.negated())?;
     Ok(result)
 }
 
@@ -138,7 +138,7 @@ fn equality_word(
 fn turned_literal(lit: Lit, turned: bool) -> Lit
     ensures { result ≡ (if turned then negated lit else lit) }
 {
-    if turned { negation(lit) } else { lit }
+    if turned { lit.negated() } else { lit }
 }
 
 /// Whether both words are true.
