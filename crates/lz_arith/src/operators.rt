@@ -232,8 +232,8 @@ fn right_shift_word(
         (λ a. word a r ≡ binary_value Binary.Shr (word a left.now) (word a right.now) t)) }
 {
     let fill = fill_of(builder, t, left);
-    let amount = &right[..5];
-    let bits = shift_down(alloc, builder, fill, left, amount)?;
+    let places = &right[..5];
+    let bits = shift_down(alloc, builder, fill, left, places)?;
     Ok(bits)
 }
 
