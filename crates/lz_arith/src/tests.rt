@@ -123,5 +123,10 @@ fn conversions_and_choices_answer_words(rt: HostRuntime) -> Result<(), Fail> {
         .ok()
         .ok_or("memory")?;
     assert_eq!(rt; chosen.items(), b.items());
+    let truth = truth_bit(rt.alloc(), &mut builder, &a)
+        .ok()
+        .ok_or("memory")?;
+    let before = a.items();
+    assert!(rt; before.len() == 32 && truth.0 > before[31].0);
     Ok(())
 }
