@@ -7,4 +7,5 @@ mod store;
 mod table;
 mod trail;
 
+pub use status::opposite;
 pub use trail::{Propagated, Trail};
