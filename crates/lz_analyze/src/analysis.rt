@@ -10,7 +10,7 @@ use crate::walk::Walk;
 use lz_base::{Memory, Sequence};
 use lz_cnf::{Clause, Lit};
 use lz_log::Hints;
-use lz_prop::{Trail, opposite};
+use lz_prop::Trail;
 use std::alloc::Global;
 
 /// What was learnt from a conflict.
@@ -114,7 +114,7 @@ fn point_clause(alloc: Global, trail: &Trail, level: u32, walk: &mut Walk) -> Re
 {
     walk.run(trail, level, 1)?;
     walk.descend(trail, level);
-    let last = opposite(trail.order()[walk.at - 1]);
+    let last = trail.order()[walk.at - 1].negated();
     let clause = clause_of(alloc, last, &walk.low)?;
     let hints = reversed(alloc, &walk.hints)?;
     Ok(Learnt {

@@ -1,8 +1,4 @@
-pub mod Courses
-pub mod Compose
-pub mod Evaluations
-pub mod Executions
-pub mod Decisions
-pub mod Evidences
-pub mod Verdicts
-pub mod Exact
+pub mod DecideLemmas
+pub mod EndingLemmas
+pub mod ExactnessLemmas
+pub mod RefutationLemmas

@@ -1,4 +1,4 @@
--- Which words the command takes.
+-- Trusted: which words of a command line name a file.
 use Rattle.std.specs.Prelude.{◌≡◌, ℕ, Bool, false, ◌==◌, List, [], ◌∷◌}
 
 -- the word begins with `-` (45)

@@ -1,14 +1,15 @@
--- Which endings are left where the folder tells the named file and no read failed. With the cases of a lawful
--- ending, each ending but want of memory comes exactly where its cause stands.
+-- Inner: which endings are left where the folder tells the named file and no read failed.
+-- With the cases of a lawful ending, each ending but want of memory comes exactly where its cause stands.
 use Rattle.std.specs.Prelude.{◌≡◌, ℕ, List, ⊤}
 use Rattle.lz_outside.specs.Faults.{Rose}
 use Rattle.lz_outside.specs.Files.{Tells}
-use Rattle.lz_tree.specs.Scopes.{Program}
+use Rattle.lz_tree.specs.FirstFormScopes.{Program}
 use Rattle.lz_model.specs.Violation.{Violated}
 use Rattle.lz_cli.specs.declared.ending.Ending.{Ending}
 use Rattle.lz_cli.specs.declared.ending.Ending.TheVariants.{Successful, Failed, NotBuilt, FileTooLong, ReadFault, OutOfMemory}
 use Rattle.lz_cli.specs.CommandLine.{IsFileName}
-use Rattle.lz_cli.specs.Endings.{Call, defaults}
+use Rattle.lz_cli.specs.Limits.{defaults}
+use Rattle.lz_cli.specs.Ending.{Call}
 
 -- the words name a file that the folder tells, with this content, and no read failed
 pub record IsToldFile (call : Call) (content : List ℕ) : Type 0 where
@@ -19,7 +20,7 @@ pub record IsToldFile (call : Call) (content : List ℕ) : Type 0 where
 
 -- the ending tells whether the program is violated, or that memory ran out
 abbrev pub IsDecided : Program → Ending → Type 0
-IsDecided p (Successful unwind rounds) = Violated p defaults.unwind defaults.rounds → ⊥
+IsDecided p (Successful unwind rounds formula log) = Violated p defaults.unwind defaults.rounds → ⊥
 IsDecided p (Failed kind line schedule) = Violated p defaults.unwind defaults.rounds
 IsDecided p (NotBuilt line) = ⊥
 IsDecided p FileTooLong = ⊥
@@ -28,7 +29,7 @@ IsDecided p OutOfMemory = ⊤
 
 -- the ending is this one, or that memory ran out
 abbrev pub IsEither : Ending → Ending → Type 0
-IsEither expected (Successful unwind rounds) = expected ≡ Successful unwind rounds
+IsEither expected (Successful unwind rounds formula log) = expected ≡ Successful unwind rounds formula log
 IsEither expected (Failed kind line schedule) = expected ≡ Failed kind line schedule
 IsEither expected (NotBuilt line) = expected ≡ NotBuilt line
 IsEither expected FileTooLong = expected ≡ FileTooLong

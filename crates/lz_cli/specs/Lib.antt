@@ -1,6 +1,8 @@
 pub mod CommandLine
-pub mod LeastRefutation
+pub mod Limits
 pub mod Report
-pub mod Endings
+pub mod Ending
+pub mod Command
 pub mod Exactness
-pub mod Plays
+pub mod Refutation
+pub mod Decide

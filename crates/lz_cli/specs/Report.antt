@@ -1,5 +1,5 @@
--- The report of an ending, to the byte, and its status.
-use Rattle.std.specs.Prelude.{ℕ, ◌<◌, List, ◌++◌, codes, ⊤}
+-- Trusted: the report of an ending, to the byte, its status and its evidence.
+use Rattle.std.specs.Prelude.{ℕ, ◌<◌, ◌^◌, List, ◌++◌, codes, ⊤}
 use Rattle.std.specs.List.{flat_map}
 use Rattle.std.specs.Fmt.{decimal}
 use Rattle.lz_base.specs.declared.word.BreakKind.{BreakKind}
@@ -8,6 +8,9 @@ use Rattle.lz_model.specs.declared.schedule.Step.{Step}
 use Rattle.lz_model.specs.Rounds.{rounds_of, threads_of}
 use Rattle.lz_cli.specs.declared.ending.Ending.{Ending}
 use Rattle.lz_cli.specs.declared.ending.Ending.TheVariants.{Successful, Failed, NotBuilt, FileTooLong, ReadFault, OutOfMemory}
+use Rattle.lz_cli.specs.declared.evidence.Evidence.{Evidence}
+use Rattle.lz_cli.specs.declared.evidence.Evidence.TheVariants.{Nothing, Proof}
+use Rattle.lz_cli.specs.Limits.{file_limit}
 
 -- the word for what breaks
 abbrev pub kind_word : BreakKind → List ℕ
@@ -23,30 +26,44 @@ kind_word Reached = codes "reached"
 abbrev pub step_line : Step → List ℕ
 step_line step = codes "step " ++ decimal step.thread ++ codes " " ++ decimal step.choice ++ codes "\n"
 
+-- the line of a success
+abbrev pub success_line : ℕ → ℕ → List ℕ
+success_line unwind rounds =
+    codes "SUCCESSFUL unwind " ++ decimal unwind ++ codes " rounds " ++ decimal rounds ++ codes "\n"
+
 -- each line ends with a newline
 abbrev pub report : Ending → List ℕ
-report (Successful unwind rounds) =
-    codes "SUCCESSFUL unwind " ++ decimal unwind ++ codes " rounds " ++ decimal rounds ++ codes "\n"
+report (Successful unwind rounds formula log) = success_line unwind rounds
 report (Failed kind line schedule) =
     codes "FAILED\ncheck " ++ kind_word kind ++ codes " line " ++ decimal line
     ++ codes "\nrounds " ++ decimal (rounds_of (threads_of schedule)) ++ codes "\n" ++ flat_map step_line schedule
 report (NotBuilt line) = codes "NOTBUILT line " ++ decimal line ++ codes "\n"
-report FileTooLong = codes "LIMIT file over 1048576 bytes\n"
+report FileTooLong = codes "LIMIT file over " ++ decimal file_limit ++ codes " bytes\n"
 report (ReadFault name) = codes "READ " ++ name ++ codes "\n"
 report OutOfMemory = codes "MEMORY\n"
 
+-- the status that the command ends with
 abbrev pub status_of : Ending → ℕ
-status_of (Successful unwind rounds) = 0
+status_of (Successful unwind rounds formula log) = 0
 status_of (Failed kind line schedule) = 1
 status_of (NotBuilt line) = 12
 status_of FileTooLong = 5
 status_of (ReadFault name) = 6
 status_of OutOfMemory = 8
 
+-- what shows that the ending is right, beside its report
+abbrev pub evidence_of : Ending → Evidence
+evidence_of (Successful unwind rounds formula log) = Proof formula log
+evidence_of (Failed kind line schedule) = Nothing
+evidence_of (NotBuilt line) = Nothing
+evidence_of FileTooLong = Nothing
+evidence_of (ReadFault name) = Nothing
+evidence_of OutOfMemory = Nothing
+
 -- the numbers of the report fit their types
 abbrev pub IsPrintable : Ending → Type 0
-IsPrintable (Failed kind line schedule) = rounds_of (threads_of schedule) < 4294967296
-IsPrintable (Successful unwind rounds) = ⊤
+IsPrintable (Failed kind line schedule) = rounds_of (threads_of schedule) < 2 ^ 32
+IsPrintable (Successful unwind rounds formula log) = ⊤
 IsPrintable (NotBuilt line) = ⊤
 IsPrintable FileTooLong = ⊤
 IsPrintable (ReadFault name) = ⊤

@@ -3,19 +3,31 @@
 
 ghost use Rattle.std.specs.Prelude.{◌≡◌, ◌<◌, [], ◌∷◌, ◌++◌, length, map, All, IfOk, OnOk};
 ghost use Rattle.std.specs.List.{AllByRecursion};
-ghost use Rattle.lz_tree.specs.Scopes.{expression, eval, statement, program, IsExpressionOf, IsStatementOf, IsWellFormed};
-ghost use Rattle.lz_cli.specs.Plays.{Evaluates, Executes, HasWord, cell_number, Decides};
+ghost use Rattle.lz_base.specs.Words.{value_bound};
+ghost use Rattle.lz_tree.specs.FirstFormScopes.{expression, eval, statement, program, IsExpressionOf, IsStatementOf, IsWellFormed};
+ghost use Rattle.lz_cli.specs.declared.decide.Stopped.TheVariants as reasons;
+ghost use Rattle.lz_cli.specs.Decide.{Evaluates, Executes, cell_number, Decides};
 
 use lz_base::{BreakKind, Memory, Value, binary};
 use lz_model::{Schedule, Step};
-use lz_tree::{Object, Scoped, ScopedExpr, ScopedStmt};
+use lz_tree::first_form::{Object, Scoped, ScopedExpr, ScopedStmt};
 use std::alloc::Global;
 
-/// How an expression came out.
+/// Why code was not evaluated to its end.
 #[derive(Clone, Copy)]
-enum Evaluated {
-    Done { value: Value },
+enum Stopped {
+    /// A check of this kind on this line broke.
     Broke { kind: BreakKind, line: u32 },
+    /// Memory ran out.
+    OutOfMemory,
+}
+
+impl From<Memory> for Stopped {
+    ghost from_gives = { λ _ stopped. stopped ≡ reasons.OutOfMemory };
+
+    fn from(_error: Memory) -> Stopped {
+        Stopped::OutOfMemory
+    }
 }
 
 /// The step of a schedule for an action of `main` that has no choice.
@@ -40,25 +52,20 @@ fn cell_of(object: Object) -> u32
     }
 }
 
-/// Evaluates an expression, in the order of its trace. A step is added for each action.
-fn evaluate(
-    expr: &ScopedExpr,
-    cells: &mut [Value],
-    steps: &mut Schedule,
-) -> Result<Evaluated, Memory>
+/// The value of an expression, evaluated in the order of its trace. A step is added for each action.
+fn evaluate(expr: &ScopedExpr, cells: &mut [Value], steps: &mut Schedule) -> Result<Value, Stopped>
     requires within { IsExpressionOf (length cells.old) (expression expr.now) }
-    requires words { All (λ word. word < 4294967296) cells.old }
-    ensures evaluates { IfOk result (λ came. Evaluates (expression expr.now) cells.old cells.new steps.old steps.new came) }
-    ensures words { OnOk result (All (λ word. word < 4294967296) cells.new) }
-    ensures value { IfOk result HasWord }
+    requires words { All (λ word. word < value_bound) cells.old }
+    ensures evaluates { Evaluates (expression expr.now) cells.old cells.new steps.old steps.new result }
+    ensures words { OnOk result (All (λ word. word < value_bound) cells.new) }
+    ensures value { IfOk result (λ value. value < value_bound) }
 {
     match expr {
-        ScopedExpr::Constant { line: _, value } => Ok(Evaluated::Done { value: *value }),
+        ScopedExpr::Constant { line: _, value } => Ok(*value),
         ScopedExpr::Read { line: _, object } => {
             let cell = cell_of(*object);
             add_step(steps)?;
-            let value = cells[cell as usize];
-            Ok(Evaluated::Done { value })
+            Ok(cells[cell as usize])
         }
         ScopedExpr::Binary {
             line: _,
@@ -67,58 +74,37 @@ fn evaluate(
             left,
             right,
         } => {
-            let a = match evaluate(left, cells, steps)? {
-                Evaluated::Done { value } => value,
-                Evaluated::Broke { kind, line } => return Ok(Evaluated::Broke { kind, line }),
-            };
-            let b = match evaluate(right, cells, steps)? {
-                Evaluated::Done { value } => value,
-                Evaluated::Broke { kind, line } => return Ok(Evaluated::Broke { kind, line }),
-            };
-            Ok(Evaluated::Done {
-                value: binary(*op, a, b, *kind),
-            })
+            let a = evaluate(left, cells, steps)?;
+            let b = evaluate(right, cells, steps)?;
+            Ok(binary(*op, a, b, *kind))
         }
         ScopedExpr::Assign {
             line: _,
             object,
             value,
         } => {
-            let value = match evaluate(value, cells, steps)? {
-                Evaluated::Done { value } => value,
-                Evaluated::Broke { kind, line } => return Ok(Evaluated::Broke { kind, line }),
-            };
+            let value = evaluate(value, cells, steps)?;
             let cell = cell_of(*object);
             add_step(steps)?;
             cells[cell as usize] = value;
-            Ok(Evaluated::Done { value })
+            Ok(value)
         }
         ScopedExpr::Call {
             line,
             name: _,
             argument,
         } => {
-            let value = match evaluate(argument, cells, steps)? {
-                Evaluated::Done { value } => value,
-                Evaluated::Broke { kind, line } => return Ok(Evaluated::Broke { kind, line }),
-            };
+            let value = evaluate(argument, cells, steps)?;
             add_step(steps)?;
             if value == 0 {
-                return Ok(Evaluated::Broke {
+                return Err(Stopped::Broke {
                     kind: BreakKind::Assert,
                     line: *line,
                 });
             }
-            Ok(Evaluated::Done { value: 0 })
+            Ok(0)
         }
     }
-}
-
-/// How statements came out.
-#[derive(Clone, Copy)]
-enum Executed {
-    Done,
-    Broke { kind: BreakKind, line: u32 },
 }
 
 /// The expression that a statement evaluates.
@@ -131,22 +117,15 @@ fn expression_of(next: &ScopedStmt) -> &ScopedExpr
 }
 
 /// Executes statements one after the other, up to a check that breaks.
-fn execute(
-    body: &[ScopedStmt],
-    cells: &mut [Value],
-    steps: &mut Schedule,
-) -> Result<Executed, Memory>
+fn execute(body: &[ScopedStmt], cells: &mut [Value], steps: &mut Schedule) -> Result<(), Stopped>
     requires within { AllByRecursion (IsStatementOf (length cells.old)) (map statement body.now) }
-    requires words { All (λ word. word < 4294967296) cells.old }
-    ensures { IfOk result (λ came. Executes (map statement body.now) cells.old cells.new steps.old steps.new came) }
+    requires words { All (λ word. word < value_bound) cells.old }
+    ensures { Executes (map statement body.now) cells.old cells.new steps.old steps.new result }
 {
     for next in body {
-        match evaluate(expression_of(next), cells, steps)? {
-            Evaluated::Done { value: _ } => {}
-            Evaluated::Broke { kind, line } => return Ok(Executed::Broke { kind, line }),
-        }
+        let _ = evaluate(expression_of(next), cells, steps)?;
     }
-    Ok(Executed::Done)
+    Ok(())
 }
 
 /// The verdict on a program.
@@ -169,12 +148,13 @@ pub fn decide(alloc: Global, scoped: &Scoped) -> Result<Decided, Memory>
 {
     let mut cells = Vec::from_slice(alloc, scoped.cells.items())?;
     let mut steps = Schedule::new(alloc);
-    match execute(scoped.main.items(), &mut cells, &mut steps)? {
-        Executed::Done => Ok(Decided::Holds),
-        Executed::Broke { kind, line } => Ok(Decided::Broken {
+    match execute(scoped.main.items(), &mut cells, &mut steps) {
+        Ok(()) => Ok(Decided::Holds),
+        Err(Stopped::Broke { kind, line }) => Ok(Decided::Broken {
             schedule: steps,
             kind,
             line,
         }),
+        Err(Stopped::OutOfMemory) => Err(Memory),
     }
 }

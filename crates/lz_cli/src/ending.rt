@@ -1,13 +1,19 @@
+use crate::evidence::Evidence;
 use lz_base::{BreakKind, Name};
+use lz_cnf::Cnf;
+use lz_log::Log;
 use lz_model::Schedule;
 
-/// How a call ends, with what its report tells.
+/// How a call ends, with what its report tells and the evidence that goes with it.
 #[derive(Debug, Drop)]
 pub enum Ending {
-    /// No run breaks a check within the bounds.
+    /// No run breaks a check within the bounds. The log refutes the formula, which has a model exactly where
+    /// the program is violated.
     Successful {
         unwind: u32,
         rounds: u32,
+        formula: Cnf,
+        log: Log,
     },
     /// A run that follows the schedule breaks a check.
     Failed {
@@ -19,7 +25,7 @@ pub enum Ending {
     NotBuilt {
         line: u32,
     },
-    /// The file is longer than 1,048,576 bytes.
+    /// The file is longer than the limit.
     FileTooLong,
     /// The file of this name can't be read.
     ReadFault {
@@ -27,4 +33,32 @@ pub enum Ending {
     },
     /// Memory ran out.
     OutOfMemory,
+}
+
+impl Ending {
+    ghost use Rattle.std.specs.Prelude.{◌≡◌};
+    ghost use Rattle.lz_cli.specs.Report.{evidence_of};
+
+    /// What shows that the ending is right, beside its report.
+    pub fn into_evidence(self) -> Evidence
+        ensures { result ≡ evidence_of self }
+    {
+        match self {
+            Ending::Successful {
+                unwind: _,
+                rounds: _,
+                formula,
+                log,
+            } => Evidence::Proof { formula, log },
+            Ending::Failed {
+                kind: _,
+                line: _,
+                schedule: _,
+            } => Evidence::Nothing,
+            Ending::NotBuilt { line: _ } => Evidence::Nothing,
+            Ending::FileTooLong => Evidence::Nothing,
+            Ending::ReadFault { name: _ } => Evidence::Nothing,
+            Ending::OutOfMemory => Evidence::Nothing,
+        }
+    }
 }

@@ -2,16 +2,19 @@
 #![tactic(auto)]
 
 mod command;
+mod command_line;
 mod decide;
 mod ending;
 mod evidence;
 mod exactness;
+mod limits;
 mod refutation;
 mod report;
 #[cfg(test)]
 mod tests;
 
-pub use command::{Ended, Words, end_out_of_memory, run};
+pub use command::{Ended, end_out_of_memory, run};
+pub use command_line::Words;
 pub use ending::Ending;
 pub use evidence::Evidence;
 pub use exactness::endings_are_exact;

@@ -3,7 +3,7 @@
 ghost use Rattle.std.specs.Prelude.{◌≡◌, [], ◌∷◌, length, IfOk};
 ghost use Rattle.lz_cnf.specs.Models.{IsFormula, HasModel};
 ghost use Rattle.lz_log.specs.Refutation.{Refutes};
-ghost use Rattle.lz_cli.specs.LeastRefutation.{both, empty_step};
+ghost use Rattle.lz_cli.specs.Refutation.{both, empty_step};
 
 use lz_base::Memory;
 use lz_cnf::{Clause, Clauses, Cnf, Lit};

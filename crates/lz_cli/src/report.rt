@@ -1,13 +1,12 @@
 //! The text of a report.
 
-ghost use Rattle.std.specs.Prelude.{◌≡◌, ◌<◌, ◌++◌, codes, OnOk, IfOk, List};
+ghost use Rattle.std.specs.Prelude.{◌≡◌, ◌<◌, ◌^◌, ◌++◌, codes, OnOk, IfOk, List};
 ghost use Rattle.std.specs.List.{flat_map};
-ghost use Rattle.std.specs.Fmt.{decimal};
 ghost use Rattle.lz_model.specs.Rounds.{rounds_of, threads_of};
-ghost use Rattle.lz_cli.specs.Report.{report, kind_word, step_line, status_of, IsPrintable};
+ghost use Rattle.lz_cli.specs.Report.{report, success_line, kind_word, step_line, status_of, IsPrintable};
 
 use crate::ending::Ending;
-use itoa::Buffer;
+use crate::limits::FILE_LIMIT;
 use lz_base::{BreakKind, Bytes, Memory, Name};
 use lz_model::{Schedule, Step, rounds};
 use std::alloc::Global;
@@ -18,7 +17,12 @@ pub fn print(alloc: Global, ending: &Ending) -> Result<Bytes, Memory>
     ensures { IfOk result (λ text. text ≡ report ending.now) }
 {
     match ending {
-        Ending::Successful { unwind, rounds } => successful(alloc, *unwind, *rounds),
+        Ending::Successful {
+            unwind,
+            rounds,
+            formula: _,
+            log: _,
+        } => successful(alloc, *unwind, *rounds),
         Ending::Failed {
             kind,
             line,
@@ -32,28 +36,28 @@ pub fn print(alloc: Global, ending: &Ending) -> Result<Bytes, Memory>
 }
 
 fn successful(alloc: Global, unwind: u32, rounds: u32) -> Result<Bytes, Memory>
-    ensures { IfOk result (λ text. text ≡ report (Ending.Successful unwind rounds)) }
+    ensures { IfOk result (λ text. text ≡ success_line unwind rounds) }
 {
     let mut text = Bytes::new(alloc);
     text.append(b"SUCCESSFUL unwind ")?;
-    append_number(&mut text, u64::from(unwind))?;
+    text.append_number(u64::from(unwind))?;
     text.append(b" rounds ")?;
-    append_number(&mut text, u64::from(rounds))?;
+    text.append_number(u64::from(rounds))?;
     text.append(b"\n")?;
     Ok(text)
 }
 
 fn failed(alloc: Global, kind: BreakKind, line: u32, schedule: &Schedule) -> Result<Bytes, Memory>
-    requires { rounds_of (threads_of schedule.now) < 4294967296 }
+    requires { rounds_of (threads_of schedule.now) < 2 ^ 32 }
     ensures { IfOk result (λ text. text ≡ report (Ending.Failed kind line schedule.now)) }
 {
     let mut text = Bytes::new(alloc);
     text.append(b"FAILED\ncheck ")?;
     text.append(word_of(kind))?;
     text.append(b" line ")?;
-    append_number(&mut text, u64::from(line))?;
+    text.append_number(u64::from(line))?;
     text.append(b"\nrounds ")?;
-    append_number(&mut text, u64::from(rounds(schedule)))?;
+    text.append_number(u64::from(rounds(schedule)))?;
     text.append(b"\n")?;
     append_steps(&mut text, schedule)?;
     Ok(text)
@@ -64,7 +68,7 @@ fn not_built(alloc: Global, line: u32) -> Result<Bytes, Memory>
 {
     let mut text = Bytes::new(alloc);
     text.append(b"NOTBUILT line ")?;
-    append_number(&mut text, u64::from(line))?;
+    text.append_number(u64::from(line))?;
     text.append(b"\n")?;
     Ok(text)
 }
@@ -73,7 +77,9 @@ fn file_too_long(alloc: Global) -> Result<Bytes, Memory>
     ensures { IfOk result (λ text. text ≡ report Ending.FileTooLong) }
 {
     let mut text = Bytes::new(alloc);
-    text.append(b"LIMIT file over 1048576 bytes\n")?;
+    text.append(b"LIMIT file over ")?;
+    text.append_number(FILE_LIMIT)?;
+    text.append(b" bytes\n")?;
     Ok(text)
 }
 
@@ -113,22 +119,14 @@ fn word_of(kind: BreakKind) -> &'static [u8]
     }
 }
 
-/// Adds a number in decimal digits.
-fn append_number(text: &mut Bytes, number: u64) -> Result<(), Memory>
-    ensures { OnOk result (text.new ≡ text.old ++ decimal number) }
-{
-    let mut buffer = Buffer::new();
-    text.append(buffer.format(number).as_bytes())
-}
-
 /// Adds the line of a step.
 fn append_step(text: &mut Bytes, step: Step) -> Result<(), Memory>
     ensures { OnOk result (text.new ≡ text.old ++ step_line step) }
 {
     text.append(b"step ")?;
-    append_number(text, u64::from(step.thread))?;
+    text.append_number(u64::from(step.thread))?;
     text.append(b" ")?;
-    append_number(text, step.choice)?;
+    text.append_number(step.choice)?;
     text.append(b"\n")
 }
 
@@ -150,6 +148,8 @@ pub fn status(ending: &Ending) -> u8
         Ending::Successful {
             unwind: _,
             rounds: _,
+            formula: _,
+            log: _,
         } => 0,
         Ending::Failed {
             kind: _,

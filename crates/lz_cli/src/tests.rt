@@ -53,93 +53,134 @@ fn has_proof(ended: &Ended) -> bool {
     matches!(&ended.evidence, Evidence::Proof { formula: _, log: _ })
 }
 
-/// Files of the first form and near misses, words that name a file and words that don't: the report,
-/// the status, and whether there is a proof.
+/// Files of the first form and near misses, words that name a file and words that don't: the report, the
+/// status, whether there is a proof, and the reason of the row.
 #[test]
 fn reports_of_files_and_words(rt: HostRuntime) -> Result<(), Fail> {
     let success = "SUCCESSFUL unwind 2 rounds 2\n";
-    let table: [(&[&str], &str, &str, u8); 18] = [
-        (&["a.c"], "int main(void){}", success, 0),
+    let table: [(&[&str], &str, &str, u8, &str); 18] = [
+        (&["a.c"], "int main(void){}", success, 0, "no check at all"),
         (
             &["a.c"],
             "int x; int main(void) { x = 7; assert(x == 7); }",
             success,
             0,
+            "a check that holds",
         ),
         (
             &["a.c"],
             "int x;\nint y;\nint main(void) {\n  y = 4;\n  x = y;\n  assert(x==y);\n  assert(0 == y);\n}\n",
             "FAILED\ncheck assert line 7\nrounds 1\nstep 0 0\nstep 0 0\nstep 0 0\nstep 0 0\nstep 0 0\nstep 0 0\nstep 0 0\nstep 0 0\n",
             1,
+            "a step for each write, read and check, up to the check that breaks",
         ),
         (
             &["a.c"],
             "int x; int main(void) { assert(x == 1); assert(x == 0); }",
             "FAILED\ncheck assert line 1\nrounds 1\nstep 0 0\nstep 0 0\n",
             1,
+            "an object starts at 0, and nothing follows a check that breaks",
         ),
         (
             &["a.c"],
             "int main(void) { assert(0 == 1); }",
             "FAILED\ncheck assert line 1\nrounds 1\nstep 0 0\n",
             1,
+            "a constant takes no step",
         ),
         (
             &["a.c"],
             "int x; int main(void) { x = 1; x = x + 1; assert(x == 2); }",
             success,
             0,
+            "an assignment reads before it writes",
         ),
         (
             &["a.c"],
             "int x = 2147483647; int main(void) { assert(x + 1 == 0); }",
             "FAILED\ncheck assert line 1\nrounds 1\nstep 0 0\nstep 0 0\n",
             1,
+            "words do not wrap at 2^31",
         ),
         (
             &["a.c"],
             "int x = 2147483647; int main(void) { x = x + x + 2; assert(x == 0); }",
             success,
             0,
+            "words wrap at 2^32",
         ),
         (
             &["a.c"],
             "int main(void) { assert(1 + +2 == 3); }",
             "NOTBUILT line 0\n",
             12,
+            "an operand has no sign",
         ),
         (
             &["a.c"],
             "int main(void) { return 0; }",
             "NOTBUILT line 0\n",
             12,
+            "no `return`",
         ),
         (
             &["a.c"],
             "int main(void) { x = 1; }",
             "NOTBUILT line 0\n",
             12,
+            "a name that is not declared",
         ),
-        (&["a.c"], "", "NOTBUILT line 0\n", 12),
-        (&["no.c"], "int main(void){}", "READ no.c\n", 6),
-        (&[""], "int main(void){}", "READ \n", 6),
-        (&[], "int main(void){}", "NOTBUILT line 0\n", 12),
-        (&["-"], "int main(void){}", "NOTBUILT line 0\n", 12),
+        (
+            &["a.c"],
+            "",
+            "NOTBUILT line 0\n",
+            12,
+            "an empty file has no `main`",
+        ),
+        (
+            &["no.c"],
+            "int main(void){}",
+            "READ no.c\n",
+            6,
+            "no file of the name",
+        ),
+        (
+            &[""],
+            "int main(void){}",
+            "READ \n",
+            6,
+            "the empty word names a file, which is missing",
+        ),
+        (&[], "int main(void){}", "NOTBUILT line 0\n", 12, "no word"),
+        (
+            &["-"],
+            "int main(void){}",
+            "NOTBUILT line 0\n",
+            12,
+            "a word that begins with -",
+        ),
         (
             &["--unwind", "3", "a.c"],
             "int main(void){}",
             "NOTBUILT line 0\n",
             12,
+            "no options",
         ),
-        (&["a.c", "a.c"], "int main(void){}", "NOTBUILT line 0\n", 12),
+        (
+            &["a.c", "a.c"],
+            "int main(void){}",
+            "NOTBUILT line 0\n",
+            12,
+            "two words",
+        ),
     ];
-    for (words, text, report, status) in table {
+    for (words, text, report, status, reason) in table {
         let told = call(rt.alloc(), words, text.as_bytes(), AMPLE)
             .ok()
             .ok_or("memory")?;
-        assert_eq!(rt; told.text.items(), report.as_bytes());
-        assert_eq!(rt; told.ended.status, status, "{text}");
-        assert_eq!(rt; has_proof(&told.ended), status == 0, "{text}");
+        assert_eq!(rt; told.text.items(), report.as_bytes(), "{reason}");
+        assert_eq!(rt; told.ended.status, status, "{reason}");
+        assert_eq!(rt; has_proof(&told.ended), status == 0, "{reason}");
     }
     Ok(())
 }
@@ -172,12 +213,22 @@ fn a_failing_read_is_told(rt: HostRuntime) -> Result<(), Fail> {
     Ok(())
 }
 
-/// A file of one byte more than the limit is refused for its length, one of the limit is read.
+/// Files of blanks at the limit.
 #[test]
 fn the_limit_of_a_file(rt: HostRuntime) -> Result<(), Fail> {
-    for (length, report, status) in [
-        (1_048_577u32, "LIMIT file over 1048576 bytes\n", 5u8),
-        (1_048_576, "NOTBUILT line 0\n", 12),
+    for (length, report, status, reason) in [
+        (
+            1_048_577u32,
+            "LIMIT file over 1048576 bytes\n",
+            5u8,
+            "a byte over the limit",
+        ),
+        (
+            1_048_576,
+            "NOTBUILT line 0\n",
+            12,
+            "the limit itself is read",
+        ),
     ] {
         let mut source = Bytes::new(rt.alloc());
         for _ in 0..length {
@@ -187,8 +238,8 @@ fn the_limit_of_a_file(rt: HostRuntime) -> Result<(), Fail> {
         let told = call_with(rt.alloc(), &["a.c"], source, AMPLE, fails)
             .ok()
             .ok_or("memory")?;
-        assert_eq!(rt; told.text.items(), report.as_bytes());
-        assert_eq!(rt; told.ended.status, status);
+        assert_eq!(rt; told.text.items(), report.as_bytes(), "{reason}");
+        assert_eq!(rt; told.ended.status, status, "{reason}");
     }
     Ok(())
 }

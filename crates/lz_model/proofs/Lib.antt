@@ -1,1 +1,3 @@
 pub mod RoundsLemmas
+pub mod RunsLemmas
+pub mod ViolationLemmas

@@ -1,4 +1,4 @@
--- Rounds: under a round-robin schedule a new round begins where the thread number goes down.
+-- Trusted: rounds, which under a round-robin schedule begin where the thread number goes down.
 use Rattle.std.specs.Prelude.{ℕ, ◌+◌, List, [], ◌∷◌, map, nat_lt, if◌then◌else◌}
 use Rattle.lz_model.specs.declared.schedule.Step.{Step}
 

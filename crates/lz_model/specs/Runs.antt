@@ -1,8 +1,8 @@
--- Runs: the interleavings of the threads' traces, a switch after any action, in which each event goes,
--- but that the last may break a check.
+-- Trusted: runs, the interleavings of the threads' traces, in which each event goes but the last, which may break a check.
+-- A switch may come after any action.
 use Rattle.std.specs.Prelude.{◌≢◌, ℕ, ◌==◌, List, [], ◌∷◌, if◌then◌else◌}
 use Rattle.lz_base.specs.declared.word.BreakKind.{BreakKind}
-use Rattle.lz_tree.specs.Scopes.{Program}
+use Rattle.lz_tree.specs.FirstFormScopes.{Program}
 use Rattle.lz_model.specs.declared.action.Event.{Event}
 use Rattle.lz_model.specs.Traces.{Act}
 use Rattle.lz_model.specs.ThreadTraces.{IsTrace}

@@ -1,9 +1,8 @@
--- The shared state, and what an action of a thread does to it (POSIX threads, for the actions that there
--- are).
+-- Trusted: the shared state, and what an action of a thread does to it (POSIX threads, for the actions that there are).
 use Rattle.std.specs.Prelude.{ℕ, zero, suc, Bool, false, ◌||◌, ◌==◌, not, nat_le, List, [], ◌∷◌, slice_index, slice_set, if◌then◌else◌}
 use Rattle.std.specs.List.{list_any}
 use Rattle.lz_base.specs.declared.word.BreakKind.{BreakKind}
-use Rattle.lz_tree.specs.Scopes.{Program}
+use Rattle.lz_tree.specs.FirstFormScopes.{Program}
 use Rattle.lz_model.specs.declared.action.Action.{Action}
 use Rattle.lz_model.specs.declared.action.Action.TheVariants.{Check, Rd, Wr, End}
 

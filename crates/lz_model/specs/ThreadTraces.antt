@@ -1,6 +1,6 @@
--- Traces of a thread: those of its code from local values that are 0, and then its end.
+-- Trusted: the traces of a thread, which are those of its code from local values that are 0, and then its end.
 use Rattle.std.specs.Prelude.{◌≡◌, ℕ, zero, suc, Bool, true, List, []}
-use Rattle.lz_tree.specs.Scopes.{Program}
+use Rattle.lz_tree.specs.FirstFormScopes.{Program}
 use Rattle.lz_model.specs.declared.action.Action.TheVariants.{End}
 use Rattle.lz_model.specs.declared.action.Event.{Event}
 use Rattle.lz_model.specs.Traces.{Act, Outcome, Behaviour, does, ◌and_then◌, Flow, normal, statements_trace}

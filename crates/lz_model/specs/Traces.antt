@@ -1,12 +1,12 @@
--- Traces: the lists of actions that code may do, in the order of C99 6.5 and 6.8 with operands from left
--- to right. A trace knows nothing of the shared state: a read may find any word.
+-- Trusted: traces, the lists of actions that code may do, in the order of C99 6.5 and 6.8 with operands from left to right.
+-- A trace knows nothing of the shared state: a read may find any word.
 use Rattle.std.specs.Prelude.{◌≡◌, ℕ, ◌<◌, ◌⊎◌, List, [], ◌∷◌, ◌++◌, zero, suc}
-use Rattle.lz_base.specs.Words.{binary_value}
+use Rattle.lz_base.specs.Words.{value_bound, binary_value}
 use Rattle.lz_base.specs.declared.word.BreakKind.{BreakKind}
 use Rattle.lz_base.specs.declared.word.BreakKind.TheVariants as kinds
-use Rattle.lz_tree.specs.declared.scoped.KnownName.TheVariants as known
-use Rattle.lz_tree.specs.declared.scoped.Object.TheVariants.{Cell}
-use Rattle.lz_tree.specs.Scopes.{Expression, constant, read, binary, assign, call, Statement, eval}
+use Rattle.lz_tree.specs.declared.first_form.scoped.KnownName.TheVariants as known
+use Rattle.lz_tree.specs.declared.first_form.scoped.Object.TheVariants.{Cell}
+use Rattle.lz_tree.specs.FirstFormScopes.{Expression, constant, read, binary, assign, call, Statement, eval}
 use Rattle.lz_model.specs.declared.action.Action.{Action}
 use Rattle.lz_model.specs.declared.action.Action.TheVariants.{Check, Rd, Wr}
 
@@ -55,7 +55,7 @@ abbrev pub ◌and_then◌ : {A B : Type 0} → Behaviour A → (A → Behaviour 
 -- a read of a cell, which finds any word
 abbrev pub reads : ℕ → ℕ → Behaviour ℕ
 reads line cell before acts after outcome =
-    (value : ℕ) × (value < 4294967296) × does (record { action = Rd cell value; line = line }) value before acts after outcome
+    (value : ℕ) × (value < value_bound) × does (record { action = Rd cell value; line = line }) value before acts after outcome
 
 -- a write of a cell, whose value is the value written
 abbrev pub writes : ℕ → ℕ → ℕ → Behaviour ℕ

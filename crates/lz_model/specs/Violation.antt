@@ -1,8 +1,8 @@
--- When a program is violated within its bounds, and when a run follows a schedule.
+-- Trusted: when a program is violated within its bounds, and when a run follows a schedule.
 use Rattle.std.specs.Prelude.{◌≡◌, ℕ, ◌≤◌, List, [], ◌∷◌, map, Option, Some, None}
 use Rattle.std.specs.List.{flat_map}
 use Rattle.lz_base.specs.declared.word.BreakKind.{BreakKind}
-use Rattle.lz_tree.specs.Scopes.{Program}
+use Rattle.lz_tree.specs.FirstFormScopes.{Program}
 use Rattle.lz_model.specs.declared.action.Action.{Action}
 use Rattle.lz_model.specs.declared.action.Action.TheVariants.{Check, Rd, Wr, End}
 use Rattle.lz_model.specs.declared.action.Event.{Event}

@@ -4,13 +4,17 @@ use std::test::Fail;
 /// Rounds of schedules over three threads, counted by hand.
 #[test]
 fn descents_begin_rounds(rt: HostRuntime) -> Result<(), Fail> {
-    let table: [(&[u32], u32); 4] = [
-        (&[], 1),
-        (&[0, 0, 0], 1),
-        (&[0, 0, 1, 2, 2, 2, 1, 1, 0, 0, 0, 0], 3),
-        (&[2, 1, 0, 1, 2], 3),
+    let table: [(&[u32], u32, &str); 4] = [
+        (&[], 1, "a run without a step has a round"),
+        (&[0, 0, 0], 1, "one thread goes on in its round"),
+        (
+            &[0, 0, 1, 2, 2, 2, 1, 1, 0, 0, 0, 0],
+            3,
+            "each descent begins a round",
+        ),
+        (&[2, 1, 0, 1, 2], 3, "an ascent begins none"),
     ];
-    for (threads, want) in table {
+    for (threads, want, reason) in table {
         let mut schedule = Schedule::new(rt.alloc());
         for thread in threads {
             let step = Step {
@@ -19,7 +23,7 @@ fn descents_begin_rounds(rt: HostRuntime) -> Result<(), Fail> {
             };
             schedule.push(step).ok().ok_or("memory")?;
         }
-        assert!(rt; rounds_are(&schedule, want));
+        assert!(rt; rounds_are(&schedule, want), "{reason}");
     }
     Ok(())
 }

@@ -1,13 +1,13 @@
 -- What a file holds after two writes.
+use Rattle.std.proofs.Math.Seq.{take-add}
 use Rattle.std.proofs.Common.{◌≡◌, ℕ, ◌+◌, ◌≤◌, List, ◌++◌, length, ◌-◌, Option, Some, None, take, drop, ap, ◌∙◌, sym, subst}
 use Rattle.std.proofs.lemmas.List.{take_rest}
-use Rattle.lz_outside.proofs.Gained.{take-add}
 use Rattle.lz_outside.specs.Files.{FileMap, Changes, KeepsOthers, bytes_of, bytes_or_none}
 
 -- one more change of the same file
 pub Changes-again : (a b c : Option FileMap) (name xs ys : List ℕ) →
     Changes a b name xs → Changes b c name (bytes_of b name ++ ys) → Changes a c name (xs ++ ys)
-Changes-again None b c name xs ys h k = tt
+Changes-again None b c name xs ys h k = subst (λ (o : Option FileMap). Changes o c name (bytes_of o name ++ ys)) h k
 Changes-again (Some before) None c name xs ys h k = absurd h
 Changes-again (Some before) (Some mid) None name xs ys h k = absurd k
 Changes-again (Some before) (Some mid) (Some after) name xs ys h k = (
@@ -28,7 +28,7 @@ Changes-piece a b c name i n xs h k =
 -- other files stay by a change and a failure after it
 pub KeepsOthers-after : (a b c : Option FileMap) (name xs : List ℕ) →
     Changes a b name xs → KeepsOthers b c name → KeepsOthers a c name
-KeepsOthers-after None b c name xs h k = tt
+KeepsOthers-after None b c name xs h k = subst (λ (o : Option FileMap). KeepsOthers o c name) h k
 KeepsOthers-after (Some before) None c name xs h k = absurd h
 KeepsOthers-after (Some before) (Some mid) None name xs h k = absurd k
 KeepsOthers-after (Some before) (Some mid) (Some after) name xs h k = λ other d. k other d ∙ h.1 other d

@@ -1,19 +1,14 @@
 -- What a sink gains by two writes.
 use Rattle.std.proofs.Common.{◌≡◌, ℕ, ◌+◌, ◌≤◌, List, ◌++◌, length, ◌-◌, Option, Some, None, take, drop, ap, ◌∙◌, append_assoc, subst, arith}
-use Rattle.std.proofs.lemmas.List.{take-append-drop, take-take, drop-take, take_rest}
+use Rattle.std.proofs.Math.Seq.{take-add}
+use Rattle.std.proofs.lemmas.List.{take_rest}
 use Rattle.lz_outside.specs.Written.{Gains}
 
 pub Gains-append : (a b c : Option (List ℕ)) (xs ys : List ℕ) → Gains a b xs → Gains b c ys → Gains a c (xs ++ ys)
-Gains-append None b c xs ys h k = tt
+Gains-append None b c xs ys h k = subst (λ (o : Option (List ℕ)). Gains o c ys) h k
 Gains-append (Some w) b c xs ys h k =
     let q : c ≡ Some ((w ++ xs) ++ ys) = subst (λ (o : Option (List ℕ)). Gains o c ys) h k in
     q ∙ ap (λ (x : List ℕ). Some x) (append_assoc w xs ys)
-
--- a front is longer by what is taken of the rest
-pub take-add : (i n : ℕ) (xs : List ℕ) → take (i + n) xs ≡ take i xs ++ take n (drop i xs)
-take-add i n xs =
-    let h : i ≤ i + n = omega arith in
-    cc (take-append-drop i (take (i + n) xs), take-take i (i + n) xs h, drop-take i n xs)
 
 -- a front gained, and then a piece of the slice that is left
 pub Gains-put : (a b c : Option (List ℕ)) (i n : ℕ) (xs : List ℕ) →

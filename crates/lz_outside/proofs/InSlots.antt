@@ -5,11 +5,11 @@ use Rattle.std.proofs.lemmas.List.Elements.{All-append}
 use Rattle.std.specs.Option.{OnSome, is_some}
 use Rattle.std.proofs.Math.Seq.{take-set-lt}
 use Rattle.std.proofs.lemmas.List.{map-set, map-append, take_more, take_more_set, get_or-map, get_or-take, length-map, length-take-le}
-use Rattle.lz_outside.specs.declared.memory_folder.File.{File}
-use Rattle.lz_outside.specs.declared.slot.Slot.{Slot}
+use Rattle.lz_outside.specs.declared.memory.folder.File.{File}
+use Rattle.lz_outside.specs.declared.memory.slot.Slot.{Slot}
 use Rattle.lz_outside.specs.Files.{bytes_or_none}
-use Rattle.lz_outside.specs.MemoryFolder.{content_of, with_content}
-use Rattle.lz_outside.specs.Slots.{file_of, files_of, place_from}
+use Rattle.lz_outside.specs.Memory.Folder.{content_of, with_content}
+use Rattle.lz_outside.specs.Memory.Slots.{file_of, files_of, place_from}
 use Rattle.lz_outside.proofs.Listings.{StandsAt, found, content_of-none, content_of-with_content, place_from-new, with_content-new, with_content-same, with_content-twice}
 
 pub length-files_of : (used : ℕ) (slots : List Slot) → used ≤ length slots → length (files_of used slots) ≡ used

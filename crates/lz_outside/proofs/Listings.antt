@@ -2,10 +2,10 @@
 use Rattle.std.proofs.Common.{◌≡◌, ◌≢◌, ℕ, ◌+◌, ◌<◌, ◌≤◌, Bool, true, false, cond, List, [], ◌∷◌, ◌++◌, length, Option, Some, None, get_or, set, refl, ap, sym, ◌∙◌, subst, suc, arith}
 use Rattle.std.specs.Str.{bytes_eq}
 use Rattle.std.proofs.lemmas.Slice.Eq.{bytes_eq-Decides}
-use Rattle.lz_outside.specs.declared.memory_folder.File.{File}
+use Rattle.lz_outside.specs.declared.memory.folder.File.{File}
 use Rattle.lz_outside.specs.Files.{Changes}
-use Rattle.lz_outside.specs.MemoryFolder.{content_of, with_content}
-use Rattle.lz_outside.specs.Slots.{place_from}
+use Rattle.lz_outside.specs.Memory.Folder.{content_of, with_content}
+use Rattle.lz_outside.specs.Memory.Slots.{place_from}
 
 -- by whether two names are one
 by_name : (x y : List ℕ) (P : Bool → Type 0) → (x ≡ y → P true) → (x ≢ y → P false) → P (bytes_eq x y)

@@ -1,7 +1,7 @@
 -- What the pieces of a file make, one after another.
 use Rattle.std.proofs.Common.{◌≡◌, ℕ, ◌+◌, ◌<◌, ◌≤◌, List, ◌++◌, Option, Some, None, length, take, drop, ap, sym, ◌∙◌, subst, arith, inl, inr, length-append, length-take, length-drop, append-nil}
 use Rattle.std.proofs.lemmas.List.{take_all, take_at, length-take-le}
-use Rattle.lz_outside.proofs.Gained.{take-add}
+use Rattle.std.proofs.Math.Seq.{take-add}
 use Rattle.lz_outside.specs.Files.{FileMap, BeginsWith, GivesPiece, Holds, IsPieceOf}
 
 -- one name has one content

@@ -1,4 +1,4 @@
--- Counts of failures. A count never falls, and stands still at the end of its type, 2 ^ 64 - 1.
+-- Trusted: counts of failures, which never fall, and stand still at the end of their type, 2 ^ 64 - 1.
 use Rattle.std.specs.Prelude.{ℕ, ◌+◌, ◌≤◌, min}
 
 -- the count rose, or stands at its type's end

@@ -1,4 +1,4 @@
--- What the files of a folder hold, and what a read of a piece gives.
+-- Trusted: what the files of a folder hold, and what a read of a piece gives.
 use Rattle.std.specs.Prelude.{◌≡◌, ◌≢◌, ℕ, ◌+◌, ◌<◌, ◌≤◌, ◌⊎◌, List, [], ◌++◌, length, take, drop, Option, Some, None, ⊤}
 
 -- what the file of each name holds, None where no file has the name
@@ -61,15 +61,16 @@ bytes_of (Some told) name = bytes_or_none (told name)
 abbrev pub KeepsOtherFiles : FileMap → FileMap → List ℕ → Type 0
 KeepsOtherFiles before after name = (other : List ℕ) → other ≢ name → after other ≡ before other
 
--- where the folder tells its files, it goes on telling them, and each but that of the name is as before
+-- where the folder tells its files, it goes on telling them, and each but that of the name is as before; where it told
+-- nothing, it tells nothing afterwards either
 abbrev pub KeepsOthers : Option FileMap → Option FileMap → List ℕ → Type 0
-KeepsOthers None after name = ⊤
+KeepsOthers None after name = after ≡ None
 KeepsOthers (Some before) None name = ⊥
 KeepsOthers (Some before) (Some after) name = KeepsOtherFiles before after name
 
 -- where the folder tells its files, it goes on telling them, the file of the name holds these bytes, and
--- each other one is as before
+-- each other one is as before; where it told nothing, it tells nothing afterwards either
 abbrev pub Changes : Option FileMap → Option FileMap → List ℕ → List ℕ → Type 0
-Changes None after name bytes = ⊤
+Changes None after name bytes = after ≡ None
 Changes (Some before) None name bytes = ⊥
 Changes (Some before) (Some after) name bytes = (after name ≡ Some bytes) × KeepsOtherFiles before after name

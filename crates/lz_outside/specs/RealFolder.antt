@@ -1,4 +1,4 @@
--- The system's files, as contracts see them.
+-- Inner: the system's files, as contracts see them.
 use Rattle.std.specs.Prelude.{ℕ}
 
 -- how many reads failed, and how many writes

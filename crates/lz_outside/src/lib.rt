@@ -3,22 +3,17 @@
 //! write a whole report through them.
 #![tactic(auto)]
 
-mod buffer;
-mod calls;
+mod faults;
 mod folder;
-mod memory_folder;
-mod memory_sink;
+mod memory;
 mod reading;
 mod real_folder;
 mod real_sink;
 mod sink;
-mod slot;
 mod writing;
 
-pub use calls::Calls;
 pub use folder::{Failed, Folder};
-pub use memory_folder::{File, Files, MemoryFolder};
-pub use memory_sink::MemorySink;
+pub use memory::{Calls, File, Files, MemoryFolder, MemorySink};
 pub use reading::{ReadError, read_all};
 pub use real_folder::RealFolder;
 pub use real_sink::RealSink;

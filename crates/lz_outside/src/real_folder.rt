@@ -2,7 +2,7 @@ ghost use Rattle.std.specs.Prelude.{◌≡◌, ◌⊎◌, ℕ, ◌+◌, ◌-◌,
 ghost use Rattle.lz_outside.specs.Faults.{Rose};
 ghost use Rattle.lz_outside.specs.RealFolder.{FolderFaults};
 
-use crate::calls::raised;
+use crate::faults::raised;
 use crate::folder::{Failed, Folder};
 use std::fs::OpenOptions;
 use std::io::{Read, Seek, SeekFrom, Write};

@@ -1,7 +1,7 @@
 ghost use Rattle.std.specs.Prelude.{◌≡◌, ℕ, ◌<◌, ◌≤◌, ◌+◌, ◌-◌, ◌^◌, None, length, min, IfOk, IfSome, OnOk, OnErr, ⊤};
 ghost use Rattle.lz_outside.specs.Faults.{Rose};
 
-use crate::calls::raised;
+use crate::faults::raised;
 use crate::folder::Failed;
 use crate::sink::Sink;
 use std::io::Print;

@@ -7,9 +7,9 @@ use Rattle.std.proofs.lemmas.Bool.{cases_Bool, cond-true, cond-false, and_parts,
 use Rattle.std.proofs.lemmas.Bool.Decides.{nat_tests}
 use Rattle.std.proofs.lemmas.List.{take_at, drop_at, take-append-drop, length-append}
 use Rattle.std.proofs.lemmas.List.Folds.{length-prefix_len, list_all-append}
-use Rattle.lz_tree.specs.declared.token.Punct.{Punct}
-use Rattle.lz_tree.specs.declared.token.Punct.TheVariants.{OpenParen, CloseParen, OpenBrace, CloseBrace, Semicolon, Assign, Equal, Plus, Increment, AddAssign}
-use Rattle.lz_tree.specs.Tokens.{Piece, blank, word, number, mark, text, punct_text, is_blank, is_word_start, is_word_byte, IsWord, IsDigits, IsPiece, MayFollow, Stands}
+use Rattle.lz_tree.specs.declared.first_form.token.Punct.{Punct}
+use Rattle.lz_tree.specs.declared.first_form.token.Punct.TheVariants.{OpenParen, CloseParen, OpenBrace, CloseBrace, Semicolon, Assign, Equal, Plus, Increment, AddAssign}
+use Rattle.lz_tree.specs.FirstFormTokens.{Piece, blank, word, number, mark, text, punct_text, is_blank, is_word_start, is_word_byte, IsWord, IsDigits, IsPiece, MayFollow, Stands}
 use Rattle.lz_parse.specs.Cutting.{begins, cut, cut_word, cut_number, cut_mark, cut_equal, cut_plus}
 
 -- ---- bytes of one class

@@ -8,10 +8,10 @@ use Rattle.std.proofs.lemmas.List.{length-map}
 use Rattle.std.proofs.lemmas.Fmt.{decimal_injective}
 use Rattle.lz_base.specs.declared.operator.Binary.TheVariants.{Add}
 use Rattle.lz_base.specs.declared.word.IntType.TheVariants.{Int}
-use Rattle.lz_tree.specs.declared.token.Punct.{Punct}
-use Rattle.lz_tree.specs.declared.token.Punct.TheVariants.{OpenParen, CloseParen, CloseBrace, Semicolon, Assign, Equal, Plus}
-use Rattle.lz_tree.specs.Tokens.{Piece, word, number, mark, Lexeme}
-use Rattle.lz_tree.specs.Scopes.{Expression, binary, Program, IsExpressionOf, IsStatementOf, IsWellFormed}
+use Rattle.lz_tree.specs.declared.first_form.token.Punct.{Punct}
+use Rattle.lz_tree.specs.declared.first_form.token.Punct.TheVariants.{OpenParen, CloseParen, CloseBrace, Semicolon, Assign, Equal, Plus}
+use Rattle.lz_tree.specs.FirstFormTokens.{Piece, word, number, mark, Lexeme}
+use Rattle.lz_tree.specs.FirstFormScopes.{Expression, binary, Program, IsExpressionOf, IsStatementOf, IsWellFormed}
 use Rattle.lz_tree.specs.FirstForm.{Operand, named, valued, Sum, FormStatement, assignment, assertion, Declaration, FirstForm, lexeme, operand_lexeme, BeginsWithAdded, BeginsWithSum, BeginsWithDeclared, BeginsWithObjects, BeginsWithHead, BeginsWithStatement, AreStatements, Spells, is_among, names_of, IsConstant, IsOperandOf, IsSumOf, IsFormStatementOf, HasNames, number_in, operand_meant, added_meant, sum_meant, statement_meant, meant, IsFirstForm}
 use Rattle.lz_parse.specs.Lexing.{IsFormLexeme, CanLex}
 use Rattle.lz_parse.proofs.Lexemes.{one_lexing}

@@ -7,7 +7,7 @@ use Rattle.std.specs.Str.{bytes_eq}
 use Rattle.std.proofs.lemmas.Bool.{cases_Bool, cases_lt, cond-true, cond-false, or_parts}
 use Rattle.std.proofs.lemmas.List.{append-nil, length-append, length-map, map_push, get_or_append_left, get_or_at}
 use Rattle.std.proofs.lemmas.Option.{slice_get_within}
-use Rattle.lz_tree.specs.declared.token.Keyword.{Keyword}
+use Rattle.lz_tree.specs.declared.first_form.token.Keyword.{Keyword}
 use Rattle.lz_parse.specs.Lexing.{name_at, keyword_text, texts, AreNames, Adds}
 use Rattle.lz_parse.proofs.Tables.{same_bytes, bytes_same}
 

@@ -3,10 +3,10 @@ use Rattle.std.proofs.Common.{◌≡◌, ℕ, ◌+◌, ◌<◌, ◌≤◌, List,
 use Rattle.std.specs.List.{AllByRecursion}
 use Rattle.std.proofs.lemmas.List.{append-nil, length-append}
 use Rattle.std.proofs.lemmas.Bool.{cond_both}
-use Rattle.lz_tree.specs.declared.token.Token.{Token}
-use Rattle.lz_tree.specs.declared.token.Punct.{Punct}
-use Rattle.lz_tree.specs.declared.token.Punct.TheVariants.{OpenParen, CloseParen, OpenBrace, CloseBrace, Semicolon, Assign, Equal, Plus, Increment, AddAssign}
-use Rattle.lz_tree.specs.Tokens.{Piece, blank, word, number, mark, text, punct_text, line_after, Stands, CutInto, Lexeme, lexemes_from, HasLexemes}
+use Rattle.lz_tree.specs.declared.first_form.token.Token.{Token}
+use Rattle.lz_tree.specs.declared.first_form.token.Punct.{Punct}
+use Rattle.lz_tree.specs.declared.first_form.token.Punct.TheVariants.{OpenParen, CloseParen, OpenBrace, CloseBrace, Semicolon, Assign, Equal, Plus, Increment, AddAssign}
+use Rattle.lz_tree.specs.FirstFormTokens.{Piece, blank, word, number, mark, text, punct_text, line_after, Stands, CutInto, Lexeme, lexemes_from, HasLexemes}
 use Rattle.lz_parse.specs.Cutting.{cut}
 use Rattle.lz_parse.specs.Lexing.{AreTokens, AreTokensOf, Takes, IsAt, LexesTo, CanLex, IsFormPiece, IsFormLexeme, line_behind, lexemes_of}
 use Rattle.lz_parse.proofs.Cutting.{cut_stands, cut_only}

@@ -3,13 +3,13 @@ use Rattle.std.proofs.Common.{◌≡◌, ℕ, zero, suc, ◌+◌, ◌<◌, ◌�
 use Rattle.std.specs.Prelude.{◌⊎◌, codes}
 use Rattle.std.specs.Str.{bytes_eq}
 use Rattle.std.proofs.lemmas.List.{append-nil, length-set, length-append, length-replicate}
-use Rattle.lz_tree.specs.declared.token.Token.{Token}
-use Rattle.lz_tree.specs.declared.token.TokenKind.{TokenKind}
-use Rattle.lz_tree.specs.declared.token.TokenKind.TheVariants as kinds
-use Rattle.lz_tree.specs.declared.token.Keyword.TheVariants.{Int}
-use Rattle.lz_tree.specs.declared.token.Punct.{Punct}
-use Rattle.lz_tree.specs.declared.token.Punct.TheVariants.{OpenParen, CloseParen, Semicolon, Assign, Equal, Plus}
-use Rattle.lz_tree.specs.Scopes.{Expression, Statement}
+use Rattle.lz_tree.specs.declared.first_form.token.Token.{Token}
+use Rattle.lz_tree.specs.declared.first_form.token.TokenKind.{TokenKind}
+use Rattle.lz_tree.specs.declared.first_form.token.TokenKind.TheVariants as kinds
+use Rattle.lz_tree.specs.declared.first_form.token.Keyword.TheVariants.{Int}
+use Rattle.lz_tree.specs.declared.first_form.token.Punct.{Punct}
+use Rattle.lz_tree.specs.declared.first_form.token.Punct.TheVariants.{OpenParen, CloseParen, Semicolon, Assign, Equal, Plus}
+use Rattle.lz_tree.specs.FirstFormScopes.{Expression, Statement}
 use Rattle.lz_tree.specs.FirstForm.{is_reserved}
 use Rattle.lz_parse.specs.declared.error.ParseError.{ParseError}
 use Rattle.lz_parse.specs.declared.error.ParseError.TheVariants as errors

@@ -4,16 +4,16 @@ use Rattle.std.specs.Prelude.{codes}
 use Rattle.std.specs.Fmt.{decimal}
 use Rattle.std.proofs.lemmas.Bool.{cond-true, false_from_ne_true, eqb-true, eq-eqb}
 use Rattle.std.proofs.lemmas.Fmt.{decimal_injective}
-use Rattle.lz_tree.specs.declared.token.Token.{Token}
-use Rattle.lz_tree.specs.declared.token.TokenKind.{TokenKind}
-use Rattle.lz_tree.specs.declared.token.TokenKind.TheVariants as kinds
-use Rattle.lz_tree.specs.declared.token.Keyword.{Keyword}
-use Rattle.lz_tree.specs.declared.token.Keyword.TheVariants.{Int, Void}
-use Rattle.lz_tree.specs.declared.token.Punct.{Punct}
-use Rattle.lz_tree.specs.declared.token.Punct.TheVariants.{OpenParen, CloseParen, OpenBrace, CloseBrace, Semicolon, Assign, Equal, Plus, Increment, AddAssign}
-use Rattle.lz_tree.specs.declared.scoped.Object.TheVariants.{Cell}
-use Rattle.lz_tree.specs.Tokens.{Piece, word, number, mark, Lexeme}
-use Rattle.lz_tree.specs.Scopes.{Expression, constant, read}
+use Rattle.lz_tree.specs.declared.first_form.token.Token.{Token}
+use Rattle.lz_tree.specs.declared.first_form.token.TokenKind.{TokenKind}
+use Rattle.lz_tree.specs.declared.first_form.token.TokenKind.TheVariants as kinds
+use Rattle.lz_tree.specs.declared.first_form.token.Keyword.{Keyword}
+use Rattle.lz_tree.specs.declared.first_form.token.Keyword.TheVariants.{Int, Void}
+use Rattle.lz_tree.specs.declared.first_form.token.Punct.{Punct}
+use Rattle.lz_tree.specs.declared.first_form.token.Punct.TheVariants.{OpenParen, CloseParen, OpenBrace, CloseBrace, Semicolon, Assign, Equal, Plus, Increment, AddAssign}
+use Rattle.lz_tree.specs.declared.first_form.scoped.Object.TheVariants.{Cell}
+use Rattle.lz_tree.specs.FirstFormTokens.{Piece, word, number, mark, Lexeme}
+use Rattle.lz_tree.specs.FirstFormScopes.{Expression, constant, read}
 use Rattle.lz_tree.specs.FirstForm.{Operand, named, valued, lexeme, operand_lexeme, is_among, is_reserved, number_in, IsOperandOf, operand_meant, operand_line}
 use Rattle.lz_parse.specs.Lexing.{keyword_text, name_at, kind_piece, lexeme_of, lexemes_of, IsKindOf, AreNames, AreTokens}
 use Rattle.lz_parse.specs.Grammar.{punct_number, keyword_number, is_mark, is_keyword, mark_at, keyword_at, name_of, name_token_at, cell_at, operand_of, operand_at}

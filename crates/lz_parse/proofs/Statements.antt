@@ -6,14 +6,14 @@ use Rattle.std.specs.List.{AllByRecursion}
 use Rattle.std.proofs.lemmas.Bool.{false_from_ne_true}
 use Rattle.lz_base.specs.declared.operator.Binary.TheVariants.{Eq}
 use Rattle.lz_base.specs.declared.word.IntType.TheVariants.{Int}
-use Rattle.lz_tree.specs.declared.token.Token.{Token}
-use Rattle.lz_tree.specs.declared.token.Keyword.{Keyword}
-use Rattle.lz_tree.specs.declared.token.Keyword.TheVariants as keys
-use Rattle.lz_tree.specs.declared.token.Punct.TheVariants.{OpenParen, CloseParen, CloseBrace, Semicolon, Assign, Equal}
-use Rattle.lz_tree.specs.declared.scoped.KnownName.TheVariants.{Assert}
-use Rattle.lz_tree.specs.declared.scoped.Object.TheVariants.{Cell}
-use Rattle.lz_tree.specs.Tokens.{Piece, word, mark, Lexeme}
-use Rattle.lz_tree.specs.Scopes.{Expression, binary, assign, call, Statement, eval}
+use Rattle.lz_tree.specs.declared.first_form.token.Token.{Token}
+use Rattle.lz_tree.specs.declared.first_form.token.Keyword.{Keyword}
+use Rattle.lz_tree.specs.declared.first_form.token.Keyword.TheVariants as keys
+use Rattle.lz_tree.specs.declared.first_form.token.Punct.TheVariants.{OpenParen, CloseParen, CloseBrace, Semicolon, Assign, Equal}
+use Rattle.lz_tree.specs.declared.first_form.scoped.KnownName.TheVariants.{Assert}
+use Rattle.lz_tree.specs.declared.first_form.scoped.Object.TheVariants.{Cell}
+use Rattle.lz_tree.specs.FirstFormTokens.{Piece, word, mark, Lexeme}
+use Rattle.lz_tree.specs.FirstFormScopes.{Expression, binary, assign, call, Statement, eval}
 use Rattle.lz_tree.specs.FirstForm.{Sum, FormStatement, assignment, assertion, lexeme, BeginsWithSum, BeginsWithStatement, AreStatements, is_among, is_reserved, number_in, IsSumOf, IsFormStatementOf, sum_meant, operand_line, statement_meant}
 use Rattle.lz_parse.specs.Lexing.{keyword_text, name_at, kind_piece, lexeme_of, lexemes_of, AreTokens}
 use Rattle.lz_parse.specs.Grammar.{is_mark, mark_at, name_token_at, cell_at, sum_at, assignment_at, assertion_at, statement_at, is_end, ReadStatements}

@@ -4,11 +4,11 @@ use Rattle.std.specs.List.{AllByRecursion}
 use Rattle.std.proofs.lemmas.Bool.{cond-false}
 use Rattle.lz_base.specs.declared.operator.Binary.TheVariants.{Add}
 use Rattle.lz_base.specs.declared.word.IntType.TheVariants.{Int}
-use Rattle.lz_tree.specs.declared.token.Token.{Token}
-use Rattle.lz_tree.specs.declared.token.Punct.{Punct}
-use Rattle.lz_tree.specs.declared.token.Punct.TheVariants.{Plus}
-use Rattle.lz_tree.specs.Tokens.{mark, Lexeme}
-use Rattle.lz_tree.specs.Scopes.{Expression, binary}
+use Rattle.lz_tree.specs.declared.first_form.token.Token.{Token}
+use Rattle.lz_tree.specs.declared.first_form.token.Punct.{Punct}
+use Rattle.lz_tree.specs.declared.first_form.token.Punct.TheVariants.{Plus}
+use Rattle.lz_tree.specs.FirstFormTokens.{mark, Lexeme}
+use Rattle.lz_tree.specs.FirstFormScopes.{Expression, binary}
 use Rattle.lz_tree.specs.FirstForm.{Operand, Sum, lexeme, operand_lexeme, BeginsWithAdded, BeginsWithSum, IsOperandOf, IsSumOf, operand_meant, operand_line, added_meant, sum_meant}
 use Rattle.lz_parse.specs.Reading.{◌>>=◌}
 use Rattle.lz_parse.specs.Lexing.{kind_piece, lexemes_of, AreTokens}

@@ -6,7 +6,7 @@ use Rattle.std.proofs.lemmas.Bool.{cases_Bool, cases_eq, cond-true, cond-false, 
 use Rattle.std.proofs.lemmas.Slice.Eq.{bytes_eq-Decides}
 use Rattle.std.proofs.lemmas.List.{get_or-replicate, length-replicate, length-set, get_or-set_same, get_or-set_other, length-append}
 use Rattle.std.proofs.lemmas.List.Folds.{list_any-append}
-use Rattle.lz_tree.specs.declared.token.TokenKind.TheVariants as kinds
+use Rattle.lz_tree.specs.declared.first_form.token.TokenKind.TheVariants as kinds
 use Rattle.lz_tree.specs.FirstForm.{is_among, is_reserved, number_in}
 use Rattle.lz_parse.specs.Lexing.{name_at, AreNames}
 use Rattle.lz_parse.specs.Grammar.{Declared, nothing_declared, cell_at, declare, declare_name}

@@ -2,10 +2,10 @@
 use Rattle.std.proofs.Common.{◌≡◌, ℕ, ◌<◌, ◌≤◌, List, [], ◌∷◌, ◌++◌, length, Some, None, refl, sym, ap, subst, ◌∙◌, arith}
 use Rattle.std.specs.List.{AllByRecursion}
 use Rattle.std.proofs.lemmas.List.{append-nil, length-append, get_or_append_left, map_push, length_push}
-use Rattle.lz_tree.specs.declared.token.Token.{Token}
-use Rattle.lz_tree.specs.declared.token.TokenKind.{TokenKind}
-use Rattle.lz_tree.specs.declared.token.TokenKind.TheVariants as kinds
-use Rattle.lz_tree.specs.Tokens.{Piece, word, Lexeme, lexemes_from}
+use Rattle.lz_tree.specs.declared.first_form.token.Token.{Token}
+use Rattle.lz_tree.specs.declared.first_form.token.TokenKind.{TokenKind}
+use Rattle.lz_tree.specs.declared.first_form.token.TokenKind.TheVariants as kinds
+use Rattle.lz_tree.specs.FirstFormTokens.{Piece, word, Lexeme, lexemes_from}
 use Rattle.lz_tree.specs.FirstForm.{lexeme}
 use Rattle.lz_parse.specs.Lexing.{name_at, kind_piece, lexeme_of, lexemes_of, IsKindOf, IsTokenOf, Adds, IsOfPiece, Takes}
 

@@ -7,14 +7,14 @@ use Rattle.std.specs.Fmt.{decimal}
 use Rattle.std.proofs.lemmas.Bool.{cond-true, cond-false}
 use Rattle.std.proofs.lemmas.List.{append-nil}
 use Rattle.std.proofs.lemmas.Fmt.{decimal_injective}
-use Rattle.lz_tree.specs.declared.token.Token.{Token}
-use Rattle.lz_tree.specs.declared.token.TokenKind.{TokenKind}
-use Rattle.lz_tree.specs.declared.token.TokenKind.TheVariants as kinds
-use Rattle.lz_tree.specs.declared.token.Keyword.{Keyword}
-use Rattle.lz_tree.specs.declared.token.Keyword.TheVariants.{Int, Void}
-use Rattle.lz_tree.specs.declared.token.Punct.TheVariants.{OpenParen, CloseParen, OpenBrace, Semicolon, Assign}
-use Rattle.lz_tree.specs.Tokens.{Piece, word, number, mark, Lexeme}
-use Rattle.lz_tree.specs.Scopes.{Statement, Program}
+use Rattle.lz_tree.specs.declared.first_form.token.Token.{Token}
+use Rattle.lz_tree.specs.declared.first_form.token.TokenKind.{TokenKind}
+use Rattle.lz_tree.specs.declared.first_form.token.TokenKind.TheVariants as kinds
+use Rattle.lz_tree.specs.declared.first_form.token.Keyword.{Keyword}
+use Rattle.lz_tree.specs.declared.first_form.token.Keyword.TheVariants.{Int, Void}
+use Rattle.lz_tree.specs.declared.first_form.token.Punct.TheVariants.{OpenParen, CloseParen, OpenBrace, Semicolon, Assign}
+use Rattle.lz_tree.specs.FirstFormTokens.{Piece, word, number, mark, Lexeme}
+use Rattle.lz_tree.specs.FirstFormScopes.{Statement, Program}
 use Rattle.lz_tree.specs.FirstForm.{Declaration, FirstForm, lexeme, BeginsWithDeclared, BeginsWithObjects, BeginsWithHead, Spells, is_among, is_reserved, AreNew, names_of, IsConstant, HasNames, statement_meant, meant, IsFirstForm}
 use Rattle.lz_parse.specs.Reading.{◌>>=◌}
 use Rattle.lz_parse.specs.Lexing.{keyword_text, name_at, kind_piece, lexeme_of, lexemes_of, IsKindOf, AreTokens, AreTokensOf}

@@ -1,9 +1,9 @@
--- The piece at the front of bytes, as a function.
+-- Inner: the piece at the front of bytes, as a function.
 use Rattle.std.specs.Prelude.{ℕ, ◌==◌, Bool, false, List, [], ◌∷◌, take, drop, Option, Some, None, if◌then◌else◌}
 use Rattle.std.specs.List.{prefix_len}
 use Rattle.std.specs.Char.{is_ascii_digit}
-use Rattle.lz_tree.specs.declared.token.Punct.TheVariants.{OpenParen, CloseParen, OpenBrace, CloseBrace, Semicolon, Assign, Equal, Plus, Increment, AddAssign}
-use Rattle.lz_tree.specs.Tokens.{Piece, blank, word, number, mark, is_blank, is_word_start, is_word_byte}
+use Rattle.lz_tree.specs.declared.first_form.token.Punct.TheVariants.{OpenParen, CloseParen, OpenBrace, CloseBrace, Semicolon, Assign, Equal, Plus, Increment, AddAssign}
+use Rattle.lz_tree.specs.FirstFormTokens.{Piece, blank, word, number, mark, is_blank, is_word_start, is_word_byte}
 use Rattle.lz_parse.specs.declared.piece.Piece.{Piece as Found}
 use Rattle.lz_parse.specs.declared.piece.Piece.TheVariants as found
 

@@ -1,19 +1,19 @@
--- Reading the tokens of the first form from the left. Names are numbers here: the texts are looked at
--- where a name is declared, and where `main` and `assert` stand.
+-- Inner: reading the tokens of the first form from the left.
+-- Names are numbers here: the texts are looked at where a name is declared, and where `main` and `assert` stand.
 use Rattle.std.specs.Prelude.{◌≡◌, ℕ, ◌==◌, Bool, true, false, List, [], ◌∷◌, ◌++◌, zero, suc, length, codes, replicate, Option, Some, None, is_some, unwrap_or, nat_lt, slice_set, slice_index_or, if◌then◌else◌}
 use Rattle.std.specs.Str.{bytes_eq}
 use Rattle.lz_base.specs.declared.operator.Binary.TheVariants.{Add, Eq}
 use Rattle.lz_base.specs.declared.word.IntType.TheVariants as widths
-use Rattle.lz_tree.specs.declared.token.Token.{Token}
-use Rattle.lz_tree.specs.declared.token.TokenKind.{TokenKind}
-use Rattle.lz_tree.specs.declared.token.TokenKind.TheVariants as kinds
-use Rattle.lz_tree.specs.declared.token.Keyword.{Keyword}
-use Rattle.lz_tree.specs.declared.token.Keyword.TheVariants.{Int, Void}
-use Rattle.lz_tree.specs.declared.token.Punct.{Punct}
-use Rattle.lz_tree.specs.declared.token.Punct.TheVariants.{OpenParen, CloseParen, OpenBrace, CloseBrace, Semicolon, Assign, Equal, Plus, Increment, AddAssign}
-use Rattle.lz_tree.specs.declared.scoped.KnownName.TheVariants.{Assert}
-use Rattle.lz_tree.specs.declared.scoped.Object.TheVariants.{Cell}
-use Rattle.lz_tree.specs.Scopes.{Expression, constant, read, binary, assign, call, Statement, eval, Program}
+use Rattle.lz_tree.specs.declared.first_form.token.Token.{Token}
+use Rattle.lz_tree.specs.declared.first_form.token.TokenKind.{TokenKind}
+use Rattle.lz_tree.specs.declared.first_form.token.TokenKind.TheVariants as kinds
+use Rattle.lz_tree.specs.declared.first_form.token.Keyword.{Keyword}
+use Rattle.lz_tree.specs.declared.first_form.token.Keyword.TheVariants.{Int, Void}
+use Rattle.lz_tree.specs.declared.first_form.token.Punct.{Punct}
+use Rattle.lz_tree.specs.declared.first_form.token.Punct.TheVariants.{OpenParen, CloseParen, OpenBrace, CloseBrace, Semicolon, Assign, Equal, Plus, Increment, AddAssign}
+use Rattle.lz_tree.specs.declared.first_form.scoped.KnownName.TheVariants.{Assert}
+use Rattle.lz_tree.specs.declared.first_form.scoped.Object.TheVariants.{Cell}
+use Rattle.lz_tree.specs.FirstFormScopes.{Expression, constant, read, binary, assign, call, Statement, eval, Program}
 use Rattle.lz_tree.specs.FirstForm.{is_reserved}
 use Rattle.lz_parse.specs.declared.objects.Objects.{Objects}
 use Rattle.lz_parse.specs.Reading.{◌>>=◌}

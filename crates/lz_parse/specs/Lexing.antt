@@ -1,14 +1,14 @@
--- Tokens as the lexemes that they stand for, and what the bytes from some place on leave.
+-- Inner: tokens as the lexemes that they stand for, and what the bytes from some place on leave.
 use Rattle.std.specs.Prelude.{◌≡◌, ℕ, ◌+◌, ◌<◌, ◌≤◌, ⊤, List, [], ◌∷◌, ◌++◌, length, map, codes, Option, Some, None, slice_index_or}
 use Rattle.std.specs.List.{AllByRecursion}
 use Rattle.std.specs.Borrow.{Bor}
 use Rattle.std.specs.Fmt.{decimal}
-use Rattle.lz_tree.specs.declared.token.Token.{Token}
-use Rattle.lz_tree.specs.declared.token.TokenKind.{TokenKind}
-use Rattle.lz_tree.specs.declared.token.TokenKind.TheVariants as kinds
-use Rattle.lz_tree.specs.declared.token.Keyword.{Keyword}
-use Rattle.lz_tree.specs.declared.token.Keyword.TheVariants.{Int, Void}
-use Rattle.lz_tree.specs.Tokens.{Piece, blank, word, number, mark, Lexeme, HasLexemes, CutInto, lexemes_from, line_after}
+use Rattle.lz_tree.specs.declared.first_form.token.Token.{Token}
+use Rattle.lz_tree.specs.declared.first_form.token.TokenKind.{TokenKind}
+use Rattle.lz_tree.specs.declared.first_form.token.TokenKind.TheVariants as kinds
+use Rattle.lz_tree.specs.declared.first_form.token.Keyword.{Keyword}
+use Rattle.lz_tree.specs.declared.first_form.token.Keyword.TheVariants.{Int, Void}
+use Rattle.lz_tree.specs.FirstFormTokens.{Piece, blank, word, number, mark, Lexeme, HasLexemes, CutInto, lexemes_from, line_after}
 use Rattle.lz_tree.specs.FirstForm.{lexeme}
 
 -- ---- tokens

@@ -1,4 +1,4 @@
--- Reading from left to right: a value, or nothing where the form does not stand.
+-- Inner: reading from left to right, which gives a value, or nothing where the form does not stand.
 use Rattle.std.specs.Prelude.{◌≡◌, Option, Some, None, Result, Ok, Err}
 use Rattle.lz_parse.specs.declared.error.ParseError.{ParseError}
 use Rattle.lz_parse.specs.declared.error.ParseError.TheVariants as errors

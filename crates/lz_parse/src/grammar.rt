@@ -1,6 +1,6 @@
 ghost use Rattle.std.specs.Prelude.{◌≡◌, ℕ, ◌≤◌, length, IfOk, IsErrOf};
 ghost use Rattle.lz_parse.specs.declared.error.ParseError.TheVariants.{NotTheForm};
-ghost use Rattle.lz_tree.specs.Scopes.{Program, program};
+ghost use Rattle.lz_tree.specs.FirstFormScopes.{Program, program};
 ghost use Rattle.lz_parse.specs.Reading.{Gives};
 ghost use Rattle.lz_parse.specs.Grammar.{declared_of, head_at, front_at, IsRead};
 
@@ -9,7 +9,7 @@ use crate::objects::{Objects, declarations};
 use crate::reader::{after_keyword, after_main, after_mark};
 use crate::statement::statements;
 use lz_base::Name;
-use lz_tree::{Keyword, Punct, Scoped, Token};
+use lz_tree::first_form::{Keyword, Punct, Scoped, Token};
 use std::alloc::Global;
 
 /// What stands behind `int main(void) {` (C99 5.1.2.2.1).

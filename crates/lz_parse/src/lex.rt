@@ -7,7 +7,7 @@ use crate::piece::first_piece;
 use crate::token::{line_behind, take_piece};
 use indexmap::IndexSet;
 use lz_base::{Memory, Name};
-use lz_tree::{Names, TokenList, Tokens};
+use lz_tree::first_form::{Names, TokenList, Tokens};
 use std::alloc::Global;
 
 fn names_of(alloc: Global, words: &[&str]) -> Result<Names, Memory>

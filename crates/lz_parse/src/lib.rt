@@ -4,7 +4,7 @@
 
 ghost use Rattle.std.specs.Prelude.{◌≡◌, ℕ, ◌≤◌, List, length, IfOk, IsErrOf};
 ghost use Rattle.lz_parse.specs.declared.error.ParseError.TheVariants.{NotTheForm};
-ghost use Rattle.lz_tree.specs.Scopes.{Program, program, IsWellFormed};
+ghost use Rattle.lz_tree.specs.FirstFormScopes.{Program, program, IsWellFormed};
 ghost use Rattle.lz_tree.specs.FirstForm.{IsFirstForm};
 
 mod error;
@@ -18,7 +18,7 @@ mod statement;
 mod token;
 
 pub use error::ParseError;
-use lz_tree::Scoped;
+use lz_tree::first_form::Scoped;
 use std::alloc::Global;
 
 #[cfg(test)]

@@ -6,7 +6,7 @@ use crate::error::ParseError;
 use crate::reader::{is_keyword, is_mark};
 use crate::reserved::is_reserved;
 use lz_base::{Name, Value, Values};
-use lz_tree::{Keyword, Punct, Token, TokenKind};
+use lz_tree::first_form::{Keyword, Punct, Token, TokenKind};
 use std::alloc::{AllocError, Global};
 
 /// The objects that are declared: the cell of each, by the number of its name, and the first values of

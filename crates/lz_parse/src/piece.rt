@@ -1,10 +1,10 @@
 ghost use Rattle.std.specs.Prelude.{◌≡◌, ◌≤◌, length, option_map};
 ghost use Rattle.std.specs.List.{prefix_len};
 ghost use Rattle.std.specs.Char.{is_ascii_digit};
-ghost use Rattle.lz_tree.specs.Tokens.{is_blank, is_word_start, is_word_byte};
+ghost use Rattle.lz_tree.specs.FirstFormTokens.{is_blank, is_word_start, is_word_byte};
 ghost use Rattle.lz_parse.specs.Cutting.{piece_of, begins, cut, cut_word, cut_number, cut_mark};
 
-use lz_tree::Punct;
+use lz_tree::first_form::Punct;
 
 /// One piece of a file (C99 6.4).
 #[derive(Clone, Copy, Debug)]

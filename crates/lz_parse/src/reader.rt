@@ -6,7 +6,7 @@ ghost use Rattle.lz_parse.specs.Grammar.{is_mark, is_keyword, mark_at, keyword_a
 
 use crate::error::ParseError;
 use lz_base::Name;
-use lz_tree::{Keyword, Punct, Token, TokenKind};
+use lz_tree::first_form::{Keyword, Punct, Token, TokenKind};
 
 pub fn is_mark(kind: TokenKind, wanted: Punct) -> bool
     ensures { result ≡ is_mark wanted kind }

@@ -1,7 +1,7 @@
 ghost use Rattle.std.specs.Prelude.{◌≡◌, List, map, IfOk, IsErrOf, option_map};
 ghost use Rattle.lz_parse.specs.declared.error.ParseError.TheVariants.{NotTheForm};
-ghost use Rattle.lz_tree.specs.declared.token.Punct.TheVariants.{Plus};
-ghost use Rattle.lz_tree.specs.Scopes.{Statement, expression, statement};
+ghost use Rattle.lz_tree.specs.declared.first_form.token.Punct.TheVariants.{Plus};
+ghost use Rattle.lz_tree.specs.FirstFormScopes.{Statement, expression, statement};
 ghost use Rattle.lz_parse.specs.Reading.{Gives};
 ghost use Rattle.lz_parse.specs.Grammar.{mark_at, operand_at, next_at, sum_at, assignment_at, assertion_at, statement_at, is_end, ReadStatements};
 
@@ -9,7 +9,9 @@ use crate::error::ParseError;
 use crate::objects::Objects;
 use crate::reader::{after_mark, is_mark, is_named, name};
 use lz_base::{Binary, IntType, Name};
-use lz_tree::{KnownName, Object, Punct, ScopedExpr, ScopedStmt, ScopedStmts, Token, TokenKind};
+use lz_tree::first_form::{
+    KnownName, Object, Punct, ScopedExpr, ScopedStmt, ScopedStmts, Token, TokenKind,
+};
 use std::alloc::Global;
 
 /// A declared name or a constant (C99 6.5.1), with its line, and what comes behind.

@@ -1,6 +1,6 @@
 use super::*;
 use lz_base::{Binary, IntType};
-use lz_tree::{KnownName, Object, ScopedExpr, ScopedStmt};
+use lz_tree::first_form::{KnownName, Object, ScopedExpr, ScopedStmt};
 use std::test::*;
 
 /// Whether a statement is `assert(cell == value);` with these lines.

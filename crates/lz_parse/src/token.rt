@@ -1,15 +1,15 @@
 ghost use Rattle.std.specs.Prelude.{◌≡◌, ◌<◌, IfOk, IsErrOf, OnOk, length, Some};
 ghost use Rattle.std.specs.Str.{IsAscii};
-ghost use Rattle.lz_tree.specs.Tokens.{word, IsWord, IsDigits, IsPiece};
+ghost use Rattle.lz_tree.specs.FirstFormTokens.{word, IsWord, IsDigits, IsPiece};
 ghost use Rattle.lz_parse.specs.declared.error.ParseError.TheVariants.{NotTheForm};
-ghost use Rattle.lz_tree.specs.declared.token.Keyword.{Keyword};
+ghost use Rattle.lz_tree.specs.declared.first_form.token.Keyword.{Keyword};
 ghost use Rattle.lz_parse.specs.Cutting.{piece_of};
 ghost use Rattle.lz_parse.specs.Lexing.{texts, keyword_text, Adds, IsOfPiece, IsFormPiece, IsConstant, IsNumberOf, Takes, line_behind};
 
 use crate::error::ParseError;
 use crate::piece::Piece;
 use indexmap::IndexSet;
-use lz_tree::{Keyword, Token, TokenKind, TokenList};
+use lz_tree::first_form::{Keyword, Token, TokenKind, TokenList};
 
 fn text(bytes: &[u8]) -> &str
     requires { IsAscii bytes.now }

@@ -7,5 +7,4 @@ mod store;
 mod table;
 mod trail;
 
-pub use status::opposite;
 pub use trail::{Propagated, Trail};

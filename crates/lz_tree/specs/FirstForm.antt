@@ -1,16 +1,16 @@
--- The first form of a program: declarations of `int` objects, then one `main` of assignments and
--- assertions over sums. How its tokens spell it, which names it may have, and which program it means.
+-- Trusted: how tokens spell a program of the first form, which names it may have, and which program it means.
+-- The form has declarations of `int` objects, then one `main` of assignments and assertions over sums.
 use Rattle.std.specs.Prelude.{◌≡◌, ℕ, ◌+◌, ◌≤◌, Bool, true, false, ◌||◌, List, [], ◌∷◌, ◌++◌, length, map, codes, if◌then◌else◌, Option, Some, None, IfSome, unwrap_or, ⊤}
 use Rattle.std.specs.List.{list_any, AllByRecursion}
 use Rattle.std.specs.Str.{bytes_eq}
 use Rattle.std.specs.Fmt.{decimal}
 use Rattle.lz_base.specs.declared.operator.Binary.TheVariants.{Add, Eq}
 use Rattle.lz_base.specs.declared.word.IntType.TheVariants.{Int}
-use Rattle.lz_tree.specs.declared.token.Punct.TheVariants.{OpenParen, CloseParen, OpenBrace, CloseBrace, Semicolon, Assign, Equal, Plus}
-use Rattle.lz_tree.specs.declared.scoped.KnownName.TheVariants.{Assert}
-use Rattle.lz_tree.specs.declared.scoped.Object.TheVariants.{Cell}
-use Rattle.lz_tree.specs.Tokens.{Piece, word, number, mark, Lexeme, HasLexemes}
-use Rattle.lz_tree.specs.Scopes.{Expression, constant, read, binary, assign, call, Statement, eval, Program}
+use Rattle.lz_tree.specs.declared.first_form.token.Punct.TheVariants.{OpenParen, CloseParen, OpenBrace, CloseBrace, Semicolon, Assign, Equal, Plus}
+use Rattle.lz_tree.specs.declared.first_form.scoped.KnownName.TheVariants.{Assert}
+use Rattle.lz_tree.specs.declared.first_form.scoped.Object.TheVariants.{Cell}
+use Rattle.lz_tree.specs.FirstFormTokens.{Piece, word, number, mark, Lexeme, HasLexemes}
+use Rattle.lz_tree.specs.FirstFormScopes.{Expression, constant, read, binary, assign, call, Statement, eval, Program}
 
 -- An operand: a name or a constant, and the line on which it stands.
 pub data Operand : Type 0 where

@@ -1,3 +1,10 @@
-pub mod Tokens
-pub mod Scopes
+pub mod FirstFormTokens
+pub mod FirstFormScopes
 pub mod FirstForm
+pub mod Pieces
+pub mod Tokens
+pub mod Trees
+pub mod Height
+pub mod Languages
+pub mod Spelling
+pub mod WellFormed

@@ -2,8 +2,19 @@
 //! they spell.
 #![tactic(auto)]
 
-mod scoped;
+mod expression;
+pub mod first_form;
+mod measure;
+mod program;
+mod statement;
 mod token;
 
-pub use scoped::{KnownName, Object, Scoped, ScopedExpr, ScopedStmt, ScopedStmts};
-pub use token::{Keyword, Names, Punct, Token, TokenKind, TokenList, Tokens};
+pub use expression::{Expr, Exprs, Target, TypeName};
+pub use lz_base::{Binary, Unary};
+pub use measure::height;
+pub use program::{External, Externals, Lead, Param, Params, Program};
+pub use statement::{Declarator, Declarators, First, Objects, Stmt, Stmts};
+pub use token::{Form, Keyword, Names, Punct, Token, TokenKind, TokenList, Tokens};
+
+#[cfg(test)]
+mod tests;

@@ -1,7 +1,7 @@
 use Rattle.std.proofs.Common.{Err, ap}
 use Rattle.std.proofs.lemmas.Result.{err_from_is_err_and}
 use Rattle.lz_parse.specs.declared.error.ParseError.TheVariants.{NotTheForm}
-use Rattle.lz_tree.specs.Scopes.{program, IsWellFormed}
+use Rattle.lz_tree.specs.FirstFormScopes.{program, IsWellFormed}
 use Rattle.lz_tree.specs.FirstForm.{IsFirstForm}
 use Rattle.lz_parse.specs.Grammar.{IsRead}
 use Rattle.lz_parse.proofs.Errors.{which_error}

@@ -30,8 +30,8 @@ returns c =
       is = λ d. get_or_default s.set k d first (omega arith);
       open_ = ap (λ (n : ℕ). is_open n w.marks.keys e) (sym level) ∙ c.descend.ensures.open first;
     } in
-    let last : c.opposite-last.result ≡ negated e.lit = c.opposite-last.ensures ∙ ap negated (variable_at s c.order.result.now k first (record { 0 = 0 }) c.order.ensures (omega arith)) in
+    let last : c.negated-last.result ≡ negated e.lit = c.negated-last.ensures ∙ ap negated (variable_at s c.order.result.now k first (record { 0 = 0 }) c.order.ensures (omega arith)) in
     learnt_point s w.marks.keys w.low.items c.in_ok-clause.clause w.at (reverse w.hints.items) c.in_ok-hints.hints e c.highest.result c.requires.trail point (omega arith)
     (subst (λ (low : List Lit). IsHighest s.set low c.highest.result) c.deref-3.ensures c.highest.ensures)
-    (c.in_ok-clause.ensures ∙ ap (λ (low : List Lit). c.opposite-last.result ∷ low) c.deref.ensures ∙ ap (λ (l : Lit). l ∷ w.low.items) last)
+    (c.in_ok-clause.ensures ∙ ap (λ (low : List Lit). c.negated-last.result ∷ low) c.deref.ensures ∙ ap (λ (l : Lit). l ∷ w.low.items) last)
     (c.in_ok-hints.ensures ∙ ap reverse c.deref-2.ensures)

@@ -1,4 +1,4 @@
-use Rattle.lz_cli.proofs.Exact.{decided_ends, not_built_ends, too_long_ends, missing_ends, no_file_ends}
+use Rattle.lz_cli.proofs.ExactnessLemmas.{decided_ends, not_built_ends, too_long_ends, missing_ends, no_file_ends}
 use Rattle.lz_cli.proofs.exactness.endings_are_exact.Goals as goal
 
 pub returns-clause-decided : goal.returns-clause-decided

@@ -1,4 +1,4 @@
-use Rattle.lz_cli.proofs.Evidences.{both_refuted}
+use Rattle.lz_cli.proofs.RefutationLemmas.{both_refuted}
 use Rattle.lz_cli.proofs.refutation.refutation.Goals as goal
 
 pub returns-clause-refutes : goal.returns-clause-refutes

@@ -2,7 +2,7 @@ use Rattle.std.proofs.Common.{◌≡◌, ◌∷◌, ◌++◌, [], map, true, fal
 use Rattle.std.proofs.lemmas.Result.{err_from_is_err_and}
 use Rattle.std.proofs.lemmas.List.{map_push}
 use Rattle.lz_parse.specs.declared.error.ParseError.TheVariants.{NotTheForm}
-use Rattle.lz_tree.specs.Scopes.{statement}
+use Rattle.lz_tree.specs.FirstFormScopes.{statement}
 use Rattle.lz_parse.specs.Grammar.{statement_at, is_end}
 use Rattle.lz_parse.proofs.Errors.{which_error, fails_at}
 use Rattle.lz_parse.proofs.Loops.{statement_shorter, reading_more, reading_none, reading_end}

@@ -1,5 +1,5 @@
 use Rattle.std.proofs.Common.{length, map}
-use Rattle.lz_tree.specs.Scopes.{statement}
+use Rattle.lz_tree.specs.FirstFormScopes.{statement}
 use Rattle.lz_parse.proofs.Loops.{IsReading}
 use Rattle.lz_parse.proofs.statement.statements.Given as goal
 

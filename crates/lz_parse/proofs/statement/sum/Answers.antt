@@ -1,6 +1,6 @@
 use Rattle.std.proofs.Common.{◌≡◌, suc, ◌-◌, sym, arith}
 use Rattle.std.proofs.lemmas.Result.{err_from_is_err_and}
-use Rattle.lz_tree.specs.Scopes.{expression}
+use Rattle.lz_tree.specs.FirstFormScopes.{expression}
 use Rattle.lz_parse.proofs.Loops.{sum_fails, adding_start, adding_more, adding_none, adding_fails, adding_end}
 use Rattle.lz_parse.proofs.statement.sum.Goals as goal
 

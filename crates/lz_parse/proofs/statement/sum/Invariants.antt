@@ -1,4 +1,4 @@
-use Rattle.lz_tree.specs.Scopes.{expression}
+use Rattle.lz_tree.specs.FirstFormScopes.{expression}
 use Rattle.lz_parse.proofs.Loops.{IsAdding}
 use Rattle.lz_parse.proofs.statement.sum.Given as goal
 

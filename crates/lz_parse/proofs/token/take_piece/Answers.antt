@@ -1,5 +1,5 @@
 use Rattle.std.proofs.Common.{Option, subst}
-use Rattle.lz_tree.specs.declared.token.TokenKind.{TokenKind}
+use Rattle.lz_tree.specs.declared.first_form.token.TokenKind.{TokenKind}
 use Rattle.lz_parse.specs.Cutting.{piece_of}
 use Rattle.lz_parse.specs.Lexing.{texts, IsOfPiece}
 use Rattle.lz_parse.proofs.Taking.{takes_blank, takes_token}

@@ -1,0 +1,40 @@
+-- Facts on lists that the library lacks: searches for an item that meets a fact, and for one that does not.
+use Rattle.std.proofs.Common.{◌≡◌, ℕ, ◌+◌, ◌<◌, ◌≤◌, List, length, get_or, subst, sym, ◌∙◌, arith, below_more}
+use Rattle.std.specs.List.{All, Any}
+use Rattle.std.proofs.lemmas.List.{get_or_default}
+
+-- no item before this place meets the fact
+pub record NoneBefore {A : Type 0} (P : A → Type 0) (xs : List A) (i : ℕ) : Type 0 where
+  pub none : (k : ℕ) → k < i → (x : A) → get_or xs k x ≡ x → P x → ⊥
+
+-- each item before this place meets the fact
+pub record AllBefore {A : Type 0} (P : A → Type 0) (xs : List A) (i : ℕ) : Type 0 where
+  pub all : (k : ℕ) → k < i → (x : A) → P (get_or xs k x)
+
+-- no item is before the first place
+pub none_first : {A : Type 0} (P : A → Type 0) (xs : List A) → NoneBefore P xs 0
+none_first P xs = record { none = λ k lt x e h. omega arith }
+
+-- one more item that does not meet the fact
+pub none_more : {A : Type 0} (P : A → Type 0) (xs : List A) (i : ℕ) (d : A) → NoneBefore P xs i → i < length xs → (P (get_or xs i d) → ⊥) → NoneBefore P xs (i + 1)
+none_more {A} P xs i d before lt here = record {
+  none = below_more (λ k. (x : A) → get_or xs k x ≡ x → P x → ⊥) i before.none (λ x e h. here (subst P (sym e ∙ get_or_default xs i x d lt) h));
+}
+
+-- an item that meets the fact would be before the end
+pub none_all : {A : Type 0} (P : A → Type 0) (xs : List A) (i : ℕ) → NoneBefore P xs i → length xs ≤ i → Any P xs → ⊥
+none_all P xs i before le some = before.none some.0 (let lt = some.2 in omega arith) some.1 some.3 some.4
+
+-- no item is before the first place
+pub all_first : {A : Type 0} (P : A → Type 0) (xs : List A) → AllBefore P xs 0
+all_first P xs = record { all = λ k lt x. absurd (omega arith) }
+
+-- one more item that meets the fact
+pub all_more : {A : Type 0} (P : A → Type 0) (xs : List A) (i : ℕ) (d : A) → AllBefore P xs i → i < length xs → P (get_or xs i d) → AllBefore P xs (i + 1)
+all_more {A} P xs i d before lt here = record {
+  all = below_more (λ k. (x : A) → P (get_or xs k x)) i before.all (λ x. subst P (get_or_default xs i d x lt) here);
+}
+
+-- every item is before the end
+pub all_all : {A : Type 0} (P : A → Type 0) (xs : List A) (i : ℕ) → AllBefore P xs i → length xs ≤ i → All P xs
+all_all P xs i before le k x lt = before.all k (omega arith) x

@@ -1,0 +1,40 @@
+-- Verdicts and endings are lawful.
+use Rattle.std.proofs.Common.{◌≡◌, ℕ, ◌<◌, ◌^◌, List, length, refl, arith}
+use Rattle.lz_base.specs.declared.word.BreakKind.{BreakKind}
+use Rattle.lz_tree.specs.FirstFormScopes.{Program}
+use Rattle.lz_tree.specs.FirstForm.{IsFirstForm}
+use Rattle.lz_model.specs.declared.schedule.Step.{Step}
+use Rattle.lz_model.specs.Rounds.{rounds_of, threads_of}
+use Rattle.lz_cnf.specs.declared.clause.Cnf.{Cnf}
+use Rattle.lz_cnf.specs.Models.{IsFormula, HasModel}
+use Rattle.lz_log.specs.declared.log.LogStep.{LogStep}
+use Rattle.lz_log.specs.Refutation.{Refutes}
+use Rattle.lz_cli.specs.declared.decide.Decided.TheVariants.{Holds, Broken}
+use Rattle.lz_cli.specs.Decide.{Decides}
+use Rattle.lz_cli.specs.Limits.{defaults}
+use Rattle.lz_cli.specs.Ending.{IsSuccess, IsFailure, IsNotBuilt}
+
+-- bytes that spell no program
+pub not_built : {bytes : List ℕ} → ((p : Program) → IsFirstForm bytes p → ⊥) → IsNotBuilt bytes 0
+not_built no_form = record { no_form = no_form; no_line = refl }
+
+-- a program that holds, and the least refutation
+pub success : {bytes : List ℕ} {p : Program} {formula : Cnf} {log : List LogStep} → IsFirstForm bytes p → Decides p Holds → IsFormula formula → Refutes formula log → (HasModel formula → ⊥) → length log ≡ 1 → IsSuccess defaults bytes 2 2 formula log
+success {bytes} {p} {formula} {log} form holds is refutes no_model one = record {
+  program = p;
+  form = form;
+  told_unwind = refl;
+  told_rounds = refl;
+  not_violated = holds 2 2;
+  proof = record { is = is; refutes = refutes; exact = (λ model. absurd (no_model model), λ violated. absurd (holds 2 2 violated)); within = omega arith };
+}
+
+-- a program that is broken
+pub failure : {bytes : List ℕ} {p : Program} {kind : BreakKind} {line : ℕ} {schedule : List Step} → IsFirstForm bytes p → Decides p (Broken schedule kind line) → IsFailure defaults bytes kind line schedule
+failure {bytes} {p} form broken =
+    let run = broken 2 in
+    record { program = p; form = form; run = run.0; is_broken = run.1; follows = run.2; within_rounds = omega (arith, run.3) }
+
+-- one round is a number of rounds that can be told
+pub failure_printable : {p : Program} {kind : BreakKind} {line : ℕ} {schedule : List Step} → Decides p (Broken schedule kind line) → rounds_of (threads_of schedule) < 2 ^ 32
+failure_printable broken = omega (arith, (broken 2).3)

@@ -1,0 +1,110 @@
+-- Trusted: when an ending is lawful, case by case.
+use Rattle.std.specs.Prelude.{◌≡◌, ℕ, ◌≤◌, ◌⊎◌, ◌↔◌, List, length, Option, ⊤}
+use Rattle.lz_base.specs.declared.word.BreakKind.{BreakKind}
+use Rattle.lz_outside.specs.Faults.{Rose}
+use Rattle.lz_outside.specs.Files.{FileMap, Lacks, Holds, IsLonger}
+use Rattle.lz_tree.specs.FirstFormScopes.{Program}
+use Rattle.lz_tree.specs.FirstForm.{IsFirstForm}
+use Rattle.lz_model.specs.declared.action.Event.{Event}
+use Rattle.lz_model.specs.declared.schedule.Step.{Step}
+use Rattle.lz_model.specs.Rounds.{rounds_of, threads_of}
+use Rattle.lz_model.specs.Violation.{IsBrokenRun, Violated, Follows}
+use Rattle.lz_cnf.specs.declared.clause.Cnf.{Cnf}
+use Rattle.lz_cnf.specs.Models.{IsFormula, HasModel}
+use Rattle.lz_log.specs.declared.log.LogStep.{LogStep}
+use Rattle.lz_log.specs.Refutation.{Refutes}
+use Rattle.lz_cli.specs.declared.ending.Ending.{Ending}
+use Rattle.lz_cli.specs.declared.ending.Ending.TheVariants.{Successful, Failed, NotBuilt, FileTooLong, ReadFault, OutOfMemory}
+use Rattle.lz_cli.specs.CommandLine.{IsFileName}
+use Rattle.lz_cli.specs.Limits.{file_limit, Bounds, defaults}
+
+-- ---- verdicts on the bytes of a file
+
+-- The evidence of a success: a log that is within the bounds refutes the formula, which has a model exactly
+-- where the program is violated.
+pub record IsProofOf (bounds : Bounds) (p : Program) (formula : Cnf) (log : List LogStep) : Type 0 where
+  pub is : IsFormula formula
+  pub refutes : Refutes formula log
+  pub exact : HasModel formula ↔ Violated p bounds.unwind bounds.rounds
+  pub within : length log ≤ bounds.conflicts
+
+-- no run of the program breaks a check within the bounds
+pub record IsSuccess (bounds : Bounds) (bytes : List ℕ) (unwind rounds : ℕ) (formula : Cnf) (log : List LogStep) : Type 0 where
+  pub program : Program
+  pub form : IsFirstForm bytes program
+  pub told_unwind : unwind ≡ bounds.unwind
+  pub told_rounds : rounds ≡ bounds.rounds
+  pub not_violated : Violated program bounds.unwind bounds.rounds → ⊥
+  pub proof : IsProofOf bounds program formula log
+
+-- a run of the program follows the schedule and breaks a check of this kind on this line
+pub record IsFailure (bounds : Bounds) (bytes : List ℕ) (kind : BreakKind) (line : ℕ) (schedule : List Step) : Type 0 where
+  pub program : Program
+  pub form : IsFirstForm bytes program
+  pub run : List Event
+  pub is_broken : IsBrokenRun program bounds.unwind run kind line
+  pub follows : Follows run schedule
+  pub within_rounds : rounds_of (threads_of schedule) ≤ bounds.rounds
+
+-- the bytes do not have the form that is built
+pub record IsNotBuilt (bytes : List ℕ) (line : ℕ) : Type 0 where
+  pub no_form : (p : Program) → IsFirstForm bytes p → ⊥
+  pub no_line : line ≡ 0
+
+-- the ending is lawful for a file of these bytes, all of which were read
+abbrev pub IsVerdict : Bounds → List ℕ → Ending → Type 0
+IsVerdict bounds bytes (Successful unwind rounds formula log) = IsSuccess bounds bytes unwind rounds formula log
+IsVerdict bounds bytes (Failed kind line schedule) = IsFailure bounds bytes kind line schedule
+IsVerdict bounds bytes (NotBuilt line) = IsNotBuilt bytes line
+IsVerdict bounds bytes FileTooLong = ⊥
+IsVerdict bounds bytes (ReadFault name) = ⊥
+IsVerdict bounds bytes OutOfMemory = ⊤
+
+-- ---- endings
+
+-- What a call was given, and how many reads of its folder had failed before and after: its words, and
+-- what the files hold, where that is told.
+pub record Call : Type 0 where
+  pub words : List (List ℕ)
+  pub files : Option FileMap
+  pub faults_before : ℕ
+  pub faults_after : ℕ
+
+abbrev pub call_of : List (List ℕ) → Option FileMap → ℕ → ℕ → Call
+call_of words files faults_before faults_after =
+    record { words = words; files = files; faults_before = faults_before; faults_after = faults_after }
+
+-- the words name a file, it holds these bytes, where that is told, and they are within the limit
+pub record IsSource (call : Call) (bytes : List ℕ) : Type 0 where
+  pub name : List ℕ
+  pub named : IsFileName call.words name
+  pub held : Holds call.files name bytes
+  pub within_limit : length bytes ≤ file_limit
+
+-- the ending is the verdict on the bytes of the named file, within the default bounds, which no word changes
+abbrev pub IsFromFile : Call → Ending → Type 0
+IsFromFile call ending = (bytes : List ℕ) × IsSource call bytes × IsVerdict defaults bytes ending
+
+-- the words name no file: they are none, or several, or one that begins with `-`
+abbrev pub NamesNoFile : Call → Type 0
+NamesNoFile call = (name : List ℕ) → IsFileName call.words name → ⊥
+
+-- the file is longer than the limit, where that is told
+pub record IsFileTooLong (call : Call) : Type 0 where
+  pub name : List ℕ
+  pub named : IsFileName call.words name
+  pub longer : IsLonger call.files name file_limit
+
+-- the told files lack the named file, or the count of failed reads rose in this call or stands at its end
+pub record IsReadFault (call : Call) (name : List ℕ) : Type 0 where
+  pub named : IsFileName call.words name
+  pub cause : Rose call.faults_before call.faults_after ⊎ Lacks call.files name
+
+-- the ending is lawful in the call; want of memory always is
+abbrev pub IsLawful : Call → Ending → Type 0
+IsLawful call (Successful unwind rounds formula log) = IsFromFile call (Successful unwind rounds formula log)
+IsLawful call (Failed kind line schedule) = IsFromFile call (Failed kind line schedule)
+IsLawful call (NotBuilt line) = IsFromFile call (NotBuilt line) ⊎ (NamesNoFile call × (line ≡ 0))
+IsLawful call FileTooLong = IsFileTooLong call
+IsLawful call (ReadFault name) = IsReadFault call name
+IsLawful call OutOfMemory = ⊤

@@ -1,0 +1,17 @@
+-- Trusted: the numbers that bound a call, which are the longest file and the bounds on runs where no word says others.
+use Rattle.std.specs.Prelude.{ℕ}
+
+-- the most bytes that a source file may have
+abbrev pub file_limit : ℕ
+file_limit = 1048576
+
+-- The bounds of a call: the turns of a loop each time that it is entered, the rounds of a run, and the
+-- conflicts that a solver may spend.
+pub record Bounds : Type 0 where
+  pub unwind : ℕ
+  pub rounds : ℕ
+  pub conflicts : ℕ
+
+-- where no word says another
+abbrev pub defaults : Bounds
+defaults = record { unwind = 2; rounds = 2; conflicts = 100000 }

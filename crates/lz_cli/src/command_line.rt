@@ -1,0 +1,36 @@
+//! The words of a command line.
+
+ghost use Rattle.std.specs.Prelude.{◌≡◌, ℕ, List, IfSome, IfNone};
+ghost use Rattle.lz_cli.specs.CommandLine.{begins_with_dash, IsFileName};
+
+use lz_base::{Name, Sequence};
+
+/// The words of a command line after the program's name.
+pub type Words = Sequence<Name>;
+
+/// The name of the file, where the words are one that does not begin with `-`.
+pub fn file_name(words: &Words) -> Option<&Name>
+    ensures named { IfSome result (λ name. IsFileName words.now name.now) }
+    ensures none { IfNone result ((name : List ℕ) → IsFileName words.now name → ⊥) }
+{
+    match words.items() {
+        [name] => {
+            if is_option(name.text()) {
+                None
+            } else {
+                Some(name)
+            }
+        }
+        _ => None,
+    }
+}
+
+/// Whether a word begins with `-`.
+fn is_option(word: &str) -> bool
+    ensures { result ≡ begins_with_dash word.now }
+{
+    match word.as_bytes() {
+        [first, ..] => *first == b'-',
+        [] => false,
+    }
+}

@@ -1,0 +1,5 @@
+pub mod StraightRunLemmas
+pub mod StepLemmas
+pub mod LandingLemmas
+pub mod RoundsLemmas
+pub mod WordsLemmas

@@ -1,0 +1,173 @@
+-- Rounds: a run of at most so many rounds fits the blocks of so many rounds, and what fits them has at most so
+-- many. What fits a list of threads has no more descents than the list.
+use Rattle.std.proofs.Common.{◌≡◌, ℕ, zero, suc, ◌+◌, ◌≤◌, ◌<◌, Bool, true, false, cond, List, [], ◌∷◌, ◌++◌, nat_lt, eqb, refl, sym, subst, arith}
+use Rattle.std.specs.Prelude.{if◌then◌else◌}
+use Rattle.std.specs.List.{AllByRecursion}
+use Rattle.std.proofs.lemmas.Bool.{eqb-true, eqb-false}
+use Rattle.lz_flat.specs.FlatRuns.{threads_from, blocks, descents}
+
+-- the run's steps stand in blocks of these threads, in order
+pub data Fits : List ℕ → List ℕ → Type 0 where
+  nothing : {bs : List ℕ} → Fits [] bs
+  stay : {thread : ℕ} {run bs : List ℕ} → Fits run (thread ∷ bs) → Fits (thread ∷ run) (thread ∷ bs)
+  next : {thread : ℕ} {run bs : List ℕ} → Fits run bs → Fits run (thread ∷ bs)
+
+abbrev pub down : ℕ → ℕ → ℕ
+down first second = if nat_lt second first then 1 else 0
+
+down_lt : (a b : ℕ) → b < a → down a b ≡ 1
+down_lt a b h = decide (nat_lt b a) refl
+  where
+    decide : (r : Bool) → nat_lt b a ≡ r → ◌≡◌ {A = ℕ} (cond r 1 0) 1
+    decide true e = refl
+    decide false e = absurd (let n : b < a → ⊥ = grind arith in n h)
+
+down_ge : (a b : ℕ) → a ≤ b → down a b ≡ 0
+down_ge a b h = decide (nat_lt b a) refl
+  where
+    decide : (r : Bool) → nat_lt b a ≡ r → ◌≡◌ {A = ℕ} (cond r 1 0) 0
+    decide true e = absurd (let n : b < a = grind arith in let z : ⊥ = omega arith in z)
+    decide false e = refl
+
+-- either, with its value
+data Compared (a b : ℕ) : Type 0 where
+  lower : b < a → down a b ≡ 1 → Compared a b
+  higher : a ≤ b → down a b ≡ 0 → Compared a b
+
+compared : (a b : ℕ) → Compared a b
+compared a b = decide (nat_lt b a) refl
+  where
+    decide : (r : Bool) → nat_lt b a ≡ r → Compared a b
+    decide true e = let n : b < a = grind arith in lower n (down_lt a b n)
+    decide false e = let n : a ≤ b = grind arith in higher n (down_ge a b n)
+
+-- ---- a run of few rounds fits
+
+abbrev Small : ℕ → List ℕ → Type 0
+Small threads run = AllByRecursion (λ thread. thread < threads) run
+
+-- the step u, by whether it is of the block's thread t
+by_thread : (threads rounds t : ℕ) (bs : List ℕ) → ((run : List ℕ) → Small threads run → descents (suc t ∷ run) ≤ rounds → Fits run bs)
+    → (u : ℕ) (run : List ℕ) → Small threads (u ∷ run) → descents (t ∷ u ∷ run) ≤ rounds → (descents (t ∷ run) ≤ rounds → Fits run (t ∷ bs))
+    → (same : Bool) → eqb u t ≡ same → Fits (u ∷ run) (t ∷ bs)
+by_thread threads rounds t bs later u run small few again true e =
+    let same : t ≡ u = sym (eqb-true u t e) in
+    subst (λ (v : ℕ). Fits (v ∷ run) (t ∷ bs)) same
+    (stay (again (subst (λ (v : ℕ). descents (v ∷ run) ≤ rounds) (sym same) (let z : descents (u ∷ run) ≤ rounds = omega arith in z))))
+by_thread threads rounds t bs later u run small few again false e =
+    next (later (u ∷ run) small (fewer (compared t u) (compared (suc t) u)))
+  where
+    fewer : Compared t u → Compared (suc t) u → down (suc t) u + descents (u ∷ run) ≤ rounds
+    fewer (lower h k) (lower h' k') = omega (arith, few, k, k')
+    fewer (lower h k) (higher h' k') = omega (arith, few, k, k')
+    fewer (higher h k) (lower h' k') = absurd (eqb-false u t e (let z : u ≡ t = omega arith in z))
+    fewer (higher h k) (higher h' k') = omega (arith, few, k, k')
+
+-- a block of the thread t, where what follows takes what comes after t
+at_thread : (threads rounds t : ℕ) (bs : List ℕ) → ((run : List ℕ) → Small threads run → descents (suc t ∷ run) ≤ rounds → Fits run bs)
+    → (run : List ℕ) → Small threads run → descents (t ∷ run) ≤ rounds → Fits run (t ∷ bs)
+at_thread threads rounds t bs later [] small few = nothing
+at_thread threads rounds t bs later (u ∷ run) small few =
+    by_thread threads rounds t bs later u run small few (at_thread threads rounds t bs later run small.1) (eqb u t) refl
+
+-- the rest of a round, from the thread t on
+in_round : (threads rounds : ℕ) (bs : List ℕ) → ((run : List ℕ) → Small threads run → descents (threads ∷ run) ≤ rounds → Fits run bs)
+    → (more t : ℕ) → t + more ≡ threads → (run : List ℕ) → Small threads run → descents (t ∷ run) ≤ rounds → Fits run (threads_from t more ++ bs)
+in_round threads rounds bs later zero t e run small few = later run small (let same : t ≡ threads = omega arith in subst (λ (k : ℕ). descents (k ∷ run) ≤ rounds) same few)
+in_round threads rounds bs later (suc more) t e run small few =
+    at_thread threads rounds t (threads_from (suc t) more ++ bs) (in_round threads rounds bs later more (suc t) (omega arith)) run small few
+
+-- from the end of a round on
+from_end : (rounds threads : ℕ) (run : List ℕ) → Small threads run → descents (threads ∷ run) ≤ rounds → Fits run (blocks rounds threads)
+from_end zero threads [] small few = nothing
+from_end zero threads (u ∷ run) small few = let d = down_lt threads u small.0 in absurd (let z : ⊥ = omega (arith, few, d) in z)
+from_end (suc rounds) threads run small few =
+    in_round threads rounds (blocks rounds threads) (from_end rounds threads) threads 0 (omega arith) run small (from_zero run small few)
+  where
+    from_zero : (run : List ℕ) → Small threads run → descents (threads ∷ run) ≤ suc rounds → descents (0 ∷ run) ≤ rounds
+    from_zero [] small few = omega arith
+    from_zero (u ∷ run) small few =
+        let d = down_lt threads u small.0 in
+        let z = down_ge 0 u (let z : 0 ≤ u = omega arith in z) in
+        omega (arith, few, d, z)
+
+-- THE FITTING LEMMA
+pub fits_rounds : (rounds threads : ℕ) (run : List ℕ) → Small threads run → descents run + 1 ≤ rounds → Fits run (blocks rounds threads)
+fits_rounds rounds threads [] small few = nothing
+fits_rounds rounds threads (u ∷ run) small few =
+    from_end rounds threads (u ∷ run) small (let d = down_lt threads u small.0 in omega (arith, few, d))
+
+-- ---- what fits has few rounds
+
+triangle : (x t b : ℕ) → down x b ≤ down x t + down t b
+triangle x t b = cases (compared x b) (compared x t) (compared t b)
+  where
+    cases : Compared x b → Compared x t → Compared t b → down x b ≤ down x t + down t b
+    cases (higher h k) q r = omega (arith, k)
+    cases (lower h k) (lower h' k') r = omega (arith, k, k')
+    cases (lower h k) (higher h' k') (lower h'' k'') = omega (arith, k, k', k'')
+    cases (lower h k) (higher h' k') (higher h'' k'') = omega arith
+
+drop_block : (x t : ℕ) (bs : List ℕ) → descents (x ∷ bs) ≤ descents (x ∷ t ∷ bs)
+drop_block x t [] = omega arith
+drop_block x t (b ∷ bs) = let q = triangle x t b in omega (arith, q)
+
+self : (t : ℕ) → down t t ≡ 0
+self t = down_ge t t (let z : t ≤ t = omega arith in z)
+
+-- leaving elements out, or standing twice, adds no descent
+pub fewer_descents : (x : ℕ) {run bs : List ℕ} → Fits run bs → descents (x ∷ run) ≤ descents (x ∷ bs)
+fewer_descents x nothing = omega arith
+fewer_descents x (stay {thread = t} {run = run} {bs = bs} fits) =
+    let later : descents (t ∷ run) ≤ descents (t ∷ t ∷ bs) = fewer_descents t fits in
+    let same = self t in
+    omega (arith, later, same)
+fewer_descents x (next {thread = t} {run = run} {bs = bs} fits) =
+    let later : descents (x ∷ run) ≤ descents (x ∷ bs) = fewer_descents x fits in
+    let more = drop_block x t bs in
+    omega (arith, later, more)
+
+round_descents : (most : ℕ) (bs : List ℕ) → ((y : ℕ) → descents (y ∷ bs) ≤ most) → (more x t : ℕ) → x ≤ t → descents (x ∷ threads_from t more ++ bs) ≤ most
+round_descents most bs h zero x t le = h x
+round_descents most bs h (suc more) x t le =
+    let d = down_ge x t le in
+    let later : descents (t ∷ threads_from (suc t) more ++ bs) ≤ most = round_descents most bs h more t (suc t) (omega arith) in
+    omega (arith, d, later)
+
+one_more : (y : ℕ) (bs : List ℕ) → descents (y ∷ bs) ≤ suc (descents (0 ∷ bs))
+one_more y [] = omega arith
+one_more y (b ∷ bs) = cases (compared y b)
+  where
+    cases : Compared y b → down y b + descents (b ∷ bs) ≤ suc (down 0 b + descents (b ∷ bs))
+    cases (lower h k) = omega (arith, k)
+    cases (higher h k) = omega (arith, k)
+
+blocks_descents : (rounds threads y : ℕ) → descents (y ∷ blocks rounds threads) ≤ rounds
+blocks_descents zero threads y = omega arith
+blocks_descents (suc rounds) threads y =
+    let first = round_descents rounds (blocks rounds threads) (blocks_descents rounds threads) threads 0 0 (omega arith) in
+    let more = one_more y (blocks (suc rounds) threads) in
+    omega (arith, first, more)
+
+pub without_first : (x : ℕ) (run : List ℕ) → descents run ≤ descents (x ∷ run)
+without_first x [] = omega arith
+without_first x (u ∷ run) = omega arith
+
+pub few_rounds : (rounds threads : ℕ) (run : List ℕ) → Fits run (blocks (suc rounds) threads) → descents run + 1 ≤ suc rounds
+few_rounds rounds threads run fits =
+    let first = round_descents rounds (blocks rounds threads) (blocks_descents rounds threads) threads 0 0 (omega arith) in
+    let fewer = fewer_descents 0 fits in
+    let without = without_first 0 run in
+    omega (arith, first, fewer, without)
+
+-- what fits has no more descents
+pub fits_descents : {run bs : List ℕ} → Fits run bs → descents run ≤ descents bs
+fits_descents nothing = omega arith
+fits_descents (stay {thread = t} {run = run} {bs = bs} fits) =
+    let later : descents (t ∷ run) ≤ descents (t ∷ t ∷ bs) = fewer_descents t fits in
+    let same = self t in
+    omega (arith, later, same)
+fits_descents (next {thread = t} {run = run} {bs = bs} fits) =
+    let later : descents run ≤ descents bs = fits_descents fits in
+    let without = without_first t bs in
+    omega (arith, later, without)

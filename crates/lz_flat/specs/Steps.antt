@@ -1,0 +1,67 @@
+-- Inner: what the calls that run instructions leave behind.
+use Rattle.std.specs.Prelude.{◌≡◌, ◌≢◌, ◌⊎◌, ℕ, zero, suc, List, [], ◌∷◌, drop, if◌then◌else◌}
+use Rattle.lz_flat.specs.declared.perform.Performed.{Performed}
+use Rattle.lz_flat.specs.declared.perform.Performed.TheVariants as performed
+use Rattle.lz_flat.specs.declared.step.Advanced.{Advanced}
+use Rattle.lz_flat.specs.declared.step.Advanced.TheVariants as advanced
+use Rattle.lz_flat.specs.declared.step.Stepped.{Stepped}
+use Rattle.lz_flat.specs.declared.step.Stepped.TheVariants as stepped
+use Rattle.lz_flat.specs.Programs.{Instruction, MarkedInstruction, Statement}
+use Rattle.lz_flat.specs.Instructions.{Did, moved, blocked, broke, value, did}
+use Rattle.lz_flat.specs.FlatRuns.{went, held, breaks, ended, onward, step}
+
+-- an instruction came to this, from one memory to another
+abbrev pub Performs : Instruction → ℕ → List ℕ → List ℕ → Performed → Type 0
+Performs i input before after (performed.Moved over) = did i input before ≡ moved over after
+Performs i input before after performed.Blocked = (did i input before ≡ blocked) × (after ≡ before)
+Performs i input before after (performed.Broke kind line) = (did i input before ≡ broke kind line) × (after ≡ before)
+
+-- ---- how many instructions a step runs
+
+abbrev pub count_behind : Did → (ℕ → List ℕ → ℕ) → ℕ
+count_behind (moved over memory) next = next over memory
+count_behind blocked next = 0
+count_behind (broke kind line) next = 0
+
+-- the instructions that run on from place l, whose code this is, after so many are passed over, up to the next
+-- visible one or the end
+unfoldable pub onward_count : (ℕ → ℕ) → ℕ → List MarkedInstruction → ℕ → List ℕ → ℕ
+onward_count input l [] over memory = 0
+onward_count input l (first ∷ rest) (suc over) memory = onward_count input (suc l) rest over memory
+onward_count input l (first ∷ rest) zero memory =
+    if first.visible then 0 else suc (count_behind (did first.instr (input l) memory) (onward_count input (suc l) rest))
+
+abbrev pub count_from : (ℕ → ℕ) → ℕ → List MarkedInstruction → List ℕ → ℕ
+count_from input place [] memory = 0
+count_from input place (first ∷ rest) memory =
+    suc (count_behind (did first.instr (input place) memory) (onward_count input (suc place) rest))
+
+-- the instructions that a step of this code from this place runs
+unfoldable pub step_count : (ℕ → ℕ) → List MarkedInstruction → ℕ → List ℕ → ℕ
+step_count input code place memory = count_from input place (drop place code) memory
+
+-- ---- a step
+
+-- the instructions behind the first of a step, from a place on, came to this
+abbrev pub RunsOn : List MarkedInstruction → (ℕ → ℕ) → ℕ → List ℕ → List ℕ → Advanced → Type 0
+RunsOn code input from before after (advanced.Went place used) =
+    (onward input from (drop from code) 0 before ≡ went place after) × (used ≡ suc (onward_count input from (drop from code) 0 before))
+RunsOn code input from before after advanced.Blocked = ⊥
+RunsOn code input from before after (advanced.Broke kind line) = onward input from (drop from code) 0 before ≡ breaks kind line
+
+-- a step came to this, and led from one place and memory to another
+abbrev pub Steps : List MarkedInstruction → (ℕ → ℕ) → ℕ → ℕ → List ℕ → List ℕ → Stepped → Type 0
+Steps code input place next before after (stepped.Went used) =
+    (step input code place before ≡ went next after) × (used ≡ step_count input code place before)
+Steps code input place next before after stepped.Blocked = (step input code place before ≡ held) × (next ≡ place) × (after ≡ before)
+Steps code input place next before after (stepped.Broke kind line) = (step input code place before ≡ breaks kind line) × (next ≡ place)
+Steps code input place next before after stepped.Ended = (step input code place before ≡ ended) × (next ≡ place) × (after ≡ before)
+
+-- a statement came to this, from one memory to another
+abbrev pub PerformsGuarded : Statement → ℕ → List ℕ → List ℕ → Performed → Type 0
+PerformsGuarded statement input before after (performed.Moved over) =
+    ((value statement.guard before ≡ 0) × (after ≡ before)) ⊎ ((value statement.guard before ≢ 0) × (did statement.instr input before ≡ moved over after))
+PerformsGuarded statement input before after performed.Blocked =
+    (value statement.guard before ≢ 0) × (did statement.instr input before ≡ blocked)
+PerformsGuarded statement input before after (performed.Broke kind line) =
+    (value statement.guard before ≢ 0) × (did statement.instr input before ≡ broke kind line)

@@ -1,0 +1,20 @@
+//! Flat programs and straight programs: what their instructions do, the steps and runs of a flat
+//! program, and when a straight program fails.
+#![tactic(auto)]
+
+mod build;
+mod evaluate;
+mod perform;
+mod program;
+mod step;
+mod straight;
+
+pub use build::{binary_expr, choose_expr, copy_expr, copy_instr, copy_spot};
+pub use program::{
+    Flat, FlatExpr, FlatThread, FlatThreads, Guarded, GuardedList, Instr, Marked, Spot, Straight,
+};
+pub use step::{Stepped, flat_step};
+pub use straight::straight_run;
+
+#[cfg(test)]
+mod tests;

@@ -1,0 +1,120 @@
+ghost use Rattle.std.specs.Prelude.{◌≡◌, ◌<◌, ◌≤◌, ◌+◌, ◌^◌, length, map, drop, slice_index, All};
+ghost use Rattle.lz_flat.specs.Programs.{marked, flat_program, code_of};
+ghost use Rattle.lz_flat.specs.WellFormed.{IsCodeOf, IsWellMarked, BeginsVisible, IsWord};
+ghost use Rattle.lz_flat.specs.Steps.{RunsOn, Steps};
+
+use crate::perform::{Performed, perform};
+use crate::program::{Flat, Marked};
+use lz_base::{BreakKind, Value};
+
+/// Where the instructions behind the first of a step lead.
+#[derive(Clone, Copy)]
+enum Advanced {
+    Went { place: u32, used: u32 },
+    Blocked,
+    Broke { kind: BreakKind, line: u32 },
+}
+
+/// What a step of a thread came to.
+#[derive(Clone, Copy, Debug, PartialEq, Eq)]
+pub enum Stepped {
+    /// It ran so many instructions.
+    Went { used: u32 },
+    /// Its visible instruction is an assumption of 0. Nothing changed.
+    Blocked,
+    /// A check of 0. The memory may have changed, and the place has not.
+    Broke { kind: BreakKind, line: u32 },
+    /// The thread has no instruction left.
+    Ended,
+}
+
+/// Runs the instructions from a place on, up to a visible one or the end.
+fn run_on(code: &[Marked], inputs: &[Value], from: u32, memory: &mut [Value]) -> Advanced
+    requires code { IsCodeOf (length memory.old) (map marked code.now) }
+    requires short { length code.now < 2 ^ 32 }
+    requires words { All IsWord memory.old }
+    requires inputs { length inputs.now ≡ length code.now }
+    requires input_words { All IsWord inputs.now }
+    requires from { from ≤ length code.now }
+    requires behind { 1 ≤ from }
+    ensures runs { RunsOn (map marked code.now) (slice_index inputs.now) from memory.old memory.new result }
+    ensures words { All IsWord memory.new }
+{
+    let mut at = from as usize;
+    let mut used = 1u32;
+    while at < code.len() {
+        let next = &code[at];
+        if next.visible {
+            return Advanced::Went {
+                place: at as u32,
+                used,
+            };
+        }
+        match perform(&next.instr, inputs[at], memory) {
+            Performed::Moved { over } => {
+                at += 1 + over as usize;
+                used += 1;
+            }
+            Performed::Blocked => return Advanced::Blocked,
+            Performed::Broke { kind, line } => return Advanced::Broke { kind, line },
+        }
+    }
+    Advanced::Went {
+        place: at as u32,
+        used,
+    }
+}
+
+/// One step of a thread with this code.
+fn step_code(code: &[Marked], memory: &mut [Value], place: &mut u32, inputs: &[Value]) -> Stepped
+    requires code { IsCodeOf (length memory.old) (map marked code.now) }
+    requires short { length code.now < 2 ^ 32 }
+    requires words { All IsWord memory.old }
+    requires inputs { length inputs.now ≡ length code.now }
+    requires input_words { All IsWord inputs.now }
+    ensures steps { Steps (map marked code.now) (slice_index inputs.now) place.old place.new memory.old memory.new result }
+    ensures words { All IsWord memory.new }
+{
+    let at = *place as usize;
+    if at >= code.len() {
+        return Stepped::Ended;
+    }
+    let first = &code[at];
+    let over = match perform(&first.instr, inputs[at], memory) {
+        Performed::Moved { over } => over,
+        Performed::Blocked => return Stepped::Blocked,
+        Performed::Broke { kind, line } => return Stepped::Broke { kind, line },
+    };
+    match run_on(code, inputs, *place + (1 + over), memory) {
+        Advanced::Went { place: next, used } => {
+            *place = next;
+            Stepped::Went { used }
+        }
+        Advanced::Blocked => Stepped::Blocked,
+        Advanced::Broke { kind, line } => Stepped::Broke { kind, line },
+    }
+}
+
+/// One step of a thread: the instruction at its place, with those that follow up to the next visible one
+/// or the end. Takes no memory.
+pub fn flat_step(
+    flat: &Flat,
+    thread: u32,
+    memory: &mut [Value],
+    place: &mut u32,
+    inputs: &[Value],
+) -> Stepped
+    requires marked { IsWellMarked (flat_program flat.now) }
+    requires thread { thread < length flat.now.threads }
+    requires short { length (code_of (flat_program flat.now) thread) < 2 ^ 32 }
+    requires memory { length memory.old ≡ length flat.now.first }
+    requires words { All IsWord memory.old }
+    requires place { BeginsVisible (drop place.old (code_of (flat_program flat.now) thread)) }
+    requires inputs { length inputs.now ≡ length (code_of (flat_program flat.now) thread) }
+    requires input_words { All IsWord inputs.now }
+    ensures steps { Steps (code_of (flat_program flat.now) thread) (slice_index inputs.now) place.old place.new memory.old memory.new result }
+    ensures words { All IsWord memory.new }
+{
+    let code = &flat.threads.items()[thread as usize];
+    step_code(code.items(), memory, place, inputs)
+}

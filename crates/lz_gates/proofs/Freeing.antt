@@ -1,0 +1,96 @@
+-- How each call keeps the freedom of the fresh variables.
+use Rattle.std.proofs.Common.{◌≡◌, ℕ, zero, suc, ◌+◌, ◌<◌, ◌≤◌, Bool, true, false, ◌||◌, cond, eqb, get_or, List, [], ◌∷◌, ◌++◌, refl, sym, ◌∙◌, ap, subst, arith}
+use Rattle.std.proofs.lemmas.Bool.Decides.{nat_tests}
+use Rattle.lz_cnf.specs.declared.clause.Lit.{Lit}
+use Rattle.lz_cnf.specs.Models.{variable_of}
+use Rattle.lz_gates.specs.Circuits.{Circuit, Assignment, Satisfies, Agree, AreBelow, Extends, first_clauses, value, clause_value}
+use Rattle.lz_gates.specs.Freedom.{AgreeOn, AreVariables, IsFree}
+use Rattle.lz_gates.proofs.Gate.{value-positive}
+use Rattle.lz_gates.proofs.Extending.{satisfies_agrees, satisfies_front, satisfies_back, satisfies_append, below_append, below_more}
+
+variables_more : (old new : Circuit) (xs : List ℕ) → old.variables ≤ new.variables → AreVariables old xs → AreVariables new xs
+unfolding AreVariables
+variables_more old new [] le h = tt
+variables_more old new (x ∷ xs) le h = (let p = h.0 in omega arith, variables_more old new xs le h.1)
+
+on_agrees : (circuit : Circuit) (xs : List ℕ) (v a b : Assignment) → AreVariables circuit xs → Agree circuit.variables a b → AgreeOn xs v a → AgreeOn xs v b
+unfolding AreVariables AgreeOn Agree
+on_agrees circuit [] v a b h same on = tt
+on_agrees circuit (x ∷ xs) v a b h same on = (on.0 ∙ same x h.0, on_agrees circuit xs v a b h.1 same on.1)
+
+abbrev put : Assignment → ℕ → Bool → Assignment
+put a n v x = cond (eqb x n) v (a x)
+
+put_same : (a : Assignment) (n : ℕ) (v : Bool) → put a n v n ≡ v
+put_same a n v = grind (arith, nat_tests)
+
+put_below : (a : Assignment) (n : ℕ) (v : Bool) → Agree n a (put a n v)
+unfolding Agree
+put_below a n v x lt = grind (arith, nat_tests)
+
+agree_one : (n m : ℕ) (a b : Assignment) → m ≡ n + 1 → Agree n a b → a n ≡ b n → Agree m a b
+unfolding Agree
+agree_one n m a b e h here x lt = grind arith
+
+pub free_fresh : (old new : Circuit) (fresh : List ℕ) (gates : List (List Lit)) → IsFree old fresh gates → new.variables ≡ old.variables + 1 → IsFree new (old.variables ∷ fresh) gates
+unfolding AreVariables AgreeOn
+free_fresh old new fresh gates h more = record {
+  fresh_in = (omega arith, variables_more old new fresh (omega arith) h.fresh_in);
+  below = below_more old.variables new.variables gates (omega arith) h.below;
+  some = λ v.
+      let a = h.some v in
+      let n = old.variables in
+      let b : Assignment = put a.0 n (v n) in
+      let same : Agree old.variables a.0 b = put_below a.0 n (v n) in (
+        b,
+        satisfies_agrees old.variables a.0 b gates same h.below a.1,
+        (sym (put_same a.0 n (v n)), on_agrees old fresh v a.0 b h.fresh_in same a.2),
+      );
+  once = λ a b on s t. agree_one old.variables new.variables a b more (h.once a b on.1 s t) on.0;
+}
+
+pub free_gate : (old new : Circuit) (fresh : List ℕ) (gates : List (List Lit)) (e : Extends old new) → IsFree old fresh gates → IsFree new fresh (gates ++ e.added)
+free_gate old new fresh gates e h = record {
+  fresh_in = variables_more old new fresh e.more h.fresh_in;
+  below = below_append new.variables gates e.added (below_more old.variables new.variables gates e.more h.below) e.below;
+  some = λ v.
+      let a = h.some v in
+      let b = e.extended a.0 in
+      (b.0, satisfies_append b.0 gates e.added (satisfies_agrees old.variables a.0 b.0 gates b.1 h.below a.1) b.2, on_agrees old fresh v a.0 b.0 h.fresh_in b.1 a.2);
+  once = λ a b on s t.
+      e.once a b (h.once a b on (satisfies_front a gates e.added s) (satisfies_front b gates e.added t)) (satisfies_back a gates e.added s) (satisfies_back b gates e.added t);
+}
+
+pub free_require : (old new : Circuit) (fresh : List ℕ) (gates : List (List Lit)) → IsFree old fresh gates → new.variables ≡ old.variables → IsFree new fresh gates
+free_require old new fresh gates h same = record {
+  fresh_in = variables_more old new fresh (omega arith) h.fresh_in;
+  below = subst (λ (n : ℕ). AreBelow n gates) (sym same) h.below;
+  some = h.some;
+  once = λ a b on s t. subst (λ (n : ℕ). Agree n a b) (sym same) (h.once a b on s t);
+}
+
+or_false : (x : Bool) → (x || false) ≡ true → x ≡ true
+or_false true h = refl
+or_false false h = h
+
+true_or : (x : Bool) → x ≡ true → (x || false) ≡ true
+true_or true h = refl
+true_or false h = h
+
+-- a new builder has no fresh variable, and its clause settles variable 0
+pub free_start : (start : Circuit) → start.variables ≡ 1 → IsFree start [] first_clauses
+unfolding AreVariables AgreeOn AreBelow Satisfies clause_value Agree
+free_start start one = record {
+  fresh_in = tt;
+  below = (record { some = omega arith; lits = first_below }, tt);
+  some = λ v. ((λ x. true), (true_or _ (value-positive (λ x. true) (record { 0 = 0 }) 0 refl), tt), tt);
+  once = λ a b on s t x lt.
+      let at : x ≡ 0 = omega arith in
+      let here : (c : Assignment) → (value c (record { 0 = 0 }) || false) ≡ true → c 0 ≡ true =
+      λ c e. sym (value-positive c (record { 0 = 0 }) 0 refl) ∙ or_false _ e in
+      ap a at ∙ here a s.0 ∙ sym (here b t.0) ∙ ap b (sym at);
+}
+  where
+    first_below : (k : ℕ) (d : Lit) → k < 1 → variable_of (get_or (record { 0 = 0 } ∷ []) k d) < start.variables
+    first_below zero d lt = omega arith
+    first_below (suc k) d lt = absurd (omega arith)

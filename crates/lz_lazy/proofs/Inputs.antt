@@ -1,0 +1,138 @@
+-- Inputs of the straight program for guesses and for each thread's own inputs.
+use Rattle.std.proofs.Common.{◌≡◌, ℕ, zero, suc, ◌+◌, ◌-◌, ◌*◌, ◌/◌, ◌≤◌, ◌<◌, Bool, true, false, cond, List, [], ◌∷◌, length, drop, nat_lt, nat_le, refl, ◌∙◌, ap, arith}
+use Rattle.std.specs.Prelude.{slice_index, slice_set, ◌==◌, if◌then◌else◌}
+use Rattle.std.proofs.lemmas.List.{length-drop}
+use Rattle.std.proofs.lemmas.Bool.{eqb-true, eqb-false}
+use Rattle.lz_base.specs.Words.{value_bound}
+use Rattle.lz_flat.specs.FlatRuns.{Ran, went, behind, onward, step_from, step, below, source, block_length, driven}
+use Rattle.lz_flat.specs.Instructions.{Did, moved, blocked, broke, did}
+use Rattle.lz_flat.specs.Programs.{MarkedInstruction, FlatProgram, code_of}
+use Rattle.lz_lazy.proofs.Guesses.{lt_true, lt_false, steps_same, clamped, clamped_below}
+use Rattle.lz_lazy.proofs.Guessing.{guided, block_same}
+
+-- ---- the same inputs where instructions stand
+
+behind_same : (d : Did) (f g : ℕ → List ℕ → Ran) → ((over : ℕ) (m : List ℕ) → f over m ≡ g over m) → behind d f ≡ behind d g
+behind_same (moved over memory) f g h = h over memory
+behind_same blocked f g h = refl
+behind_same (broke kind line) f g h = refl
+
+pub onward_agrees : (a b : ℕ → ℕ) (part : List MarkedInstruction) (l over : ℕ) (memory : List ℕ) → ((k : ℕ) → l ≤ k → k < l + length part → a k ≡ b k) → onward a l part over memory ≡ onward b l part over memory
+unfolding onward
+onward_agrees a b [] l over memory same = refl
+onward_agrees a b (first ∷ rest) l (suc over) memory same = onward_agrees a b rest (suc l) over memory (λ k h t. same k (omega arith) (omega arith))
+onward_agrees a b (first ∷ rest) l zero memory same =
+    rw (same l (omega arith) (omega arith))
+    (ap (cond first.visible (went l memory)) (behind_same (did first.instr (b l) memory) (onward a (suc l) rest) (onward b (suc l) rest)
+    (λ over m. onward_agrees a b rest (suc l) over m (λ k h t. same k (omega arith) (omega arith)))))
+
+step_from_agrees : (a b : ℕ → ℕ) (part : List MarkedInstruction) (l : ℕ) (memory : List ℕ) → ((k : ℕ) → l ≤ k → k < l + length part → a k ≡ b k) → step_from a l part memory ≡ step_from b l part memory
+step_from_agrees a b [] l memory same = refl
+step_from_agrees a b (first ∷ rest) l memory same =
+    rw (same l (omega arith) (omega arith)) (behind_same (did first.instr (b l) memory) (onward a (suc l) rest) (onward b (suc l) rest)
+    (λ over m. onward_agrees a b rest (suc l) over m (λ k h t. same k (omega arith) (omega arith))))
+
+pub step_agrees : (a b : ℕ → ℕ) (code : List MarkedInstruction) (place : ℕ) (memory : List ℕ) → ((k : ℕ) → place ≤ k → k < length code → a k ≡ b k) → step a code place memory ≡ step b code place memory
+unfolding step
+step_agrees a b code place memory same =
+    step_from_agrees a b (drop place code) place memory (λ k h t. same k h (let e : length (drop place code) ≡ length code - place = length-drop place code in omega arith))
+
+pub below_agrees : (most guess : ℕ) (a b : ℕ → ℕ) (code : List MarkedInstruction) (place : ℕ) (memory : List ℕ) → ((k : ℕ) → k < length code → a k ≡ b k) → below most guess a code place memory ≡ below most guess b code place memory
+unfolding below
+below_agrees zero guess a b code place memory same = refl
+below_agrees (suc most) guess a b code place memory same =
+    rw (step_agrees a b code place memory (λ k h t. same k t))
+    (ap (λ (r : Ran). cond (nat_lt place guess) r (went place memory))
+    (steps_same place memory (step b code place memory) (below most guess a code) (below most guess b code) (λ p m. below_agrees most guess a b code p m same)))
+
+-- ---- the inputs
+
+abbrev pub block_input : (ℕ → ℕ) → ℕ → ℕ → ℕ → ℕ
+block_input inputs guess o i = if i == o then guess else inputs ((i - (o + 12)) / 3)
+
+unfoldable pub inputs_of : FlatProgram → (ℕ → ℕ → ℕ) → List ℕ → List ℕ → ℕ → ℕ → ℕ
+inputs_of flat inputs guesses [] o i = 0
+inputs_of flat inputs guesses (thread ∷ rest) o i =
+    if nat_lt i (o + block_length (code_of flat thread)) then block_input (inputs thread) (clamped (slice_index guesses 0) (length (code_of flat thread))) o i
+    else inputs_of flat inputs (drop 1 guesses) rest (o + block_length (code_of flat thread)) i
+
+eq_self : (a : ℕ) → (a == a) ≡ true
+eq_self a = decide (a == a) refl
+  where
+    decide : (b : Bool) → (a == a) ≡ b → (a == a) ≡ true
+    decide true e = e
+    decide false e = absurd (eqb-false a a e refl)
+
+eq_other : (a b : ℕ) → (a ≡ b → ⊥) → (a == b) ≡ false
+eq_other a b h = decide (a == b) refl
+  where
+    decide : (r : Bool) → (a == b) ≡ r → (a == b) ≡ false
+    decide true e = absurd (h (eqb-true a b e))
+    decide false e = e
+
+guess_in : (flat : FlatProgram) (inputs : ℕ → ℕ → ℕ) (guesses : List ℕ) (thread : ℕ) (rest : List ℕ) (o : ℕ) → inputs_of flat inputs guesses (thread ∷ rest) o o ≡ clamped (slice_index guesses 0) (length (code_of flat thread))
+unfolding inputs_of
+guess_in flat inputs guesses thread rest o = rw (lt_true o (o + block_length (code_of flat thread)) (omega arith), eq_self o) refl
+
+source_in : (flat : FlatProgram) (inputs : ℕ → ℕ → ℕ) (guesses : List ℕ) (thread : ℕ) (rest : List ℕ) (o l : ℕ) → l < length (code_of flat thread) → source (inputs_of flat inputs guesses (thread ∷ rest) o) o l ≡ inputs thread l
+unfolding inputs_of
+source_in flat inputs guesses thread rest o l h =
+    let at : (o + (12 + 3 * l) - (o + 12)) / 3 ≡ l = omega arith in
+    rw (lt_true (o + (12 + 3 * l)) (o + block_length (code_of flat thread)) (omega arith), eq_other (o + (12 + 3 * l)) o (λ e. omega arith), at) refl
+
+behind_in : (flat : FlatProgram) (inputs : ℕ → ℕ → ℕ) (guesses : List ℕ) (thread : ℕ) (rest : List ℕ) (o i : ℕ) → o + block_length (code_of flat thread) ≤ i
+    → inputs_of flat inputs guesses (thread ∷ rest) o i ≡ inputs_of flat inputs (drop 1 guesses) rest (o + block_length (code_of flat thread)) i
+unfolding inputs_of
+behind_in flat inputs guesses thread rest o i h = rw (lt_false i (o + block_length (code_of flat thread)) h) refl
+
+pub driven_agrees : (flat : FlatProgram) (a b : ℕ → ℕ) (bs : List ℕ) (o : ℕ) (places memory : List ℕ) → ((i : ℕ) → o ≤ i → a i ≡ b i) → driven flat a o bs places memory ≡ driven flat b o bs places memory
+unfolding driven
+driven_agrees flat a b [] o places memory same = refl
+driven_agrees flat a b (thread ∷ rest) o places memory same =
+    let code = code_of flat thread in
+    rw (same o (omega arith), below_agrees (length code) (b o) (source a o) (source b o) code (slice_index places thread) memory (λ k h. same (o + (12 + 3 * k)) (omega arith)))
+    (block_same (below (length code) (b o) (source b o) code (slice_index places thread) memory)
+    (λ place. driven flat a (o + block_length code) rest (slice_set places thread place)) (λ place. driven flat b (o + block_length code) rest (slice_set places thread place))
+    (λ place m. driven_agrees flat a b rest (o + block_length code) (slice_set places thread place) m (λ i h. same i (omega arith))))
+
+-- the inputs drive what the guesses guide
+pub driven_guided : (flat : FlatProgram) (inputs : ℕ → ℕ → ℕ) (bs guesses : List ℕ) (o : ℕ) (places memory : List ℕ)
+    → driven flat (inputs_of flat inputs guesses bs o) o bs places memory ≡ guided flat inputs guesses bs places memory
+unfolding driven guided
+driven_guided flat inputs [] guesses o places memory = refl
+driven_guided flat inputs (thread ∷ rest) guesses o places memory =
+    let code = code_of flat thread in
+    let input = inputs_of flat inputs guesses (thread ∷ rest) o in
+    let size = block_length code in
+    rw (
+      guess_in flat inputs guesses thread rest o,
+      below_agrees (length code) (clamped (slice_index guesses 0) (length code)) (source input o) (inputs thread) code (slice_index places thread) memory (λ k h. source_in flat inputs guesses thread rest o k h),
+      clamped_below (length code) (slice_index guesses 0) (length code) (inputs thread) code (slice_index places thread) memory (omega arith),
+    )
+    (block_same (below (length code) (slice_index guesses 0) (inputs thread) code (slice_index places thread) memory)
+    (λ place. driven flat input (o + size) rest (slice_set places thread place)) (λ place. guided flat inputs (drop 1 guesses) rest (slice_set places thread place))
+    (λ place m. driven_agrees flat input (inputs_of flat inputs (drop 1 guesses) rest (o + size)) rest (o + size) (slice_set places thread place) m (λ i h. behind_in flat inputs guesses thread rest o i h)
+    ∙ driven_guided flat inputs rest (drop 1 guesses) (o + size) (slice_set places thread place) m))
+
+-- they are words
+clamped_small : (guess size : ℕ) → size < value_bound → clamped guess size < value_bound
+clamped_small guess size h = decide (nat_le guess size) refl
+  where
+    decide : (b : Bool) → nat_le guess size ≡ b → cond b guess size < value_bound
+    decide true e = let g : guess ≤ size = grind arith in omega arith
+    decide false e = h
+
+cond_small : (b : Bool) (x y : ℕ) → x < value_bound → y < value_bound → cond b x y < value_bound
+cond_small true x y h k = h
+cond_small false x y h k = k
+
+pub inputs_small : (flat : FlatProgram) (inputs : ℕ → ℕ → ℕ) (bs guesses : List ℕ) (o i : ℕ) → ((thread l : ℕ) → inputs thread l < value_bound) → ((thread : ℕ) → length (code_of flat thread) < value_bound)
+    → inputs_of flat inputs guesses bs o i < value_bound
+unfolding inputs_of
+inputs_small flat inputs [] guesses o i small short = omega arith
+inputs_small flat inputs (thread ∷ rest) guesses o i small short =
+    cond_small (nat_lt i (o + block_length (code_of flat thread))) (block_input (inputs thread) (clamped (slice_index guesses 0) (length (code_of flat thread))) o i)
+    (inputs_of flat inputs (drop 1 guesses) rest (o + block_length (code_of flat thread)) i)
+    (cond_small (i == o) (clamped (slice_index guesses 0) (length (code_of flat thread))) (inputs thread ((i - (o + 12)) / 3))
+    (clamped_small (slice_index guesses 0) (length (code_of flat thread)) (short thread)) (small thread ((i - (o + 12)) / 3)))
+    (inputs_small flat inputs rest (drop 1 guesses) (o + block_length (code_of flat thread)) i small short)

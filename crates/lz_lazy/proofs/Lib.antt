@@ -1,0 +1,17 @@
+pub mod OnePass
+pub mod Guesses
+pub mod Masks
+pub mod LaidOut
+pub mod Simulation
+pub mod Driving
+pub mod Guessing
+pub mod Inputs
+pub mod Reading
+pub mod Sizes
+pub mod Whole
+pub mod Forming
+pub mod Weighing
+pub mod Measuring
+pub mod Coding
+pub mod Rounding
+pub mod Ending

@@ -1,0 +1,15 @@
+use Rattle.std.proofs.Common.{arith}
+use Rattle.lz_lazy.proofs.Masks.{mask_begins, mask_turns, mask_below, mask_found}
+use Rattle.lz_lazy.proofs.encode.mask_of.Goals as goal
+
+pub loop-init : goal.loop-init
+loop-init c = mask_begins c.args.size
+
+pub wider_mask-mask-requires : goal.wider_mask-mask-requires
+wider_mask-mask-requires c = mask_below _ _ _ c.loop.invariant
+
+pub loop-preserved : goal.loop-preserved
+loop-preserved c = mask_turns _ _ _ _ c.loop.invariant (omega arith) c.wider_mask-mask.ensures
+
+pub returns : goal.returns
+returns c = mask_found _ _ _ c.loop.invariant (omega arith)

@@ -1,0 +1,5 @@
+use Rattle.lz_lazy.proofs.Masks.{MaskAt}
+use Rattle.lz_lazy.proofs.encode.mask_of.Given as goal
+
+abbrev pub invariant-loop : goal.invariant-loop
+invariant-loop l = MaskAt l.size l.counter l.mask

@@ -1,9 +1,0 @@
-use Rattle.std.proofs.Common.{◌≡◌, drop, map}
-use Rattle.lz_outside.specs.MemoryFolder.{content_of}
-use Rattle.lz_outside.specs.Slots.{file_of}
-use Rattle.lz_outside.proofs.memory_folder.find_content.Given as goal
-
--- the files that are left decide
-abbrev pub invariant-loop-slot : goal.invariant-loop-slot
-invariant-loop-slot l =
-    content_of (map file_of (drop l.slot-index l.slots)) l.name ≡ content_of (map file_of l.slots) l.name

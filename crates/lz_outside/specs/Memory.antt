@@ -1,0 +1,4 @@
+pub mod Buffer
+pub mod Folder
+pub mod Sink
+pub mod Slots

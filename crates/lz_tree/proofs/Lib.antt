@@ -1,0 +1,3 @@
+pub mod TreesLemmas
+pub mod HeightLemmas
+pub mod Witnesses
