@@ -1,16 +1,14 @@
 -- Sums.
-use Rattle.std.proofs.Common.{◌≡◌, ℕ, zero, suc, ◌+◌, ◌-◌, ◌*◌, ◌^◌, ◌/◌, ◌%◌, ◌<◌, ◌≤◌, Bool, true, false, not, cond, eqb, List, [], ◌∷◌, ◌++◌, length, get_or, take, drop, refl, sym, ◌∙◌, ap, subst, arith, add-one}
-use Rattle.std.specs.List.{All}
-use Rattle.std.proofs.lemmas.List.{append-nil, append_assoc, length-append, length_push, take_more, take_all}
+use Rattle.std.proofs.Common.{◌≡◌, ℕ, ◌+◌, ◌*◌, ◌^◌, ◌%◌, ◌<◌, ◌≤◌, Bool, true, false, List, [], ◌∷◌, ◌++◌, length, get_or, take, refl, sym, ◌∙◌, ap, subst, arith}
+use Rattle.std.proofs.lemmas.List.{length_push, take_all}
 use Rattle.std.proofs.lemmas.List.Elements.{All-push}
 use Rattle.std.proofs.Math.Nat.{add_comm, mul_comm}
 use Rattle.std.proofs.lemmas.Nat.{mod-mul-add}
 use Rattle.lz_cnf.specs.declared.clause.Lit.{Lit}
-use Rattle.lz_cnf.specs.Models.{variable_of}
-use Rattle.lz_gates.specs.Circuits.{Circuit, Assignment, value, IsLit, AreLits, Satisfies, Makes, xor, choice}
-use Rattle.lz_gates.proofs.Extending.{makes_then, makes_so, makes_same, still}
+use Rattle.lz_gates.specs.Circuits.{Circuit, value, IsLit, AreLits, Makes, xor, choice}
+use Rattle.lz_gates.proofs.Extending.{makes_then, makes_so, makes_same}
 use Rattle.lz_arith.specs.Bits.{bit, word, AreBits}
-use Rattle.lz_arith.proofs.Words.{word_push, word_take, word_lt, pow_twice, twice}
+use Rattle.lz_arith.proofs.Words.{word_push, word_take, word_lt, pow_twice}
 
 -- ---- one bit
 

@@ -1,8 +1,7 @@
 -- Long division, one digit a step.
-use Rattle.std.proofs.Common.{◌≡◌, ℕ, zero, suc, ◌+◌, ◌-◌, ◌*◌, ◌^◌, ◌/◌, ◌%◌, ◌<◌, ◌≤◌, Bool, true, false, not, cond, eqb, ltb, List, [], ◌∷◌, ◌++◌, length, get_or, take, drop, refl, sym, ◌∙◌, ap, subst, arith, add-one}
-use Rattle.std.specs.List.{All}
-use Rattle.std.proofs.lemmas.List.{append-nil, append_assoc, length-append, length_push, length-take-le, take_more, take_all, drop_all}
-use Rattle.std.proofs.Math.Nat.{pow-suc, mul_comm, mul-le-mul_left}
+use Rattle.std.proofs.Common.{◌≡◌, ℕ, zero, suc, ◌+◌, ◌-◌, ◌*◌, ◌^◌, ◌/◌, ◌%◌, ◌<◌, ◌≤◌, Bool, true, false, not, cond, List, [], ◌∷◌, ◌++◌, length, get_or, take, drop, refl, sym, ◌∙◌, ap, subst, arith, add-one}
+use Rattle.std.proofs.lemmas.List.{length_push, drop_all}
+use Rattle.std.proofs.Math.Nat.{pow-suc, mul-le-mul_left}
 use Rattle.std.proofs.Math.Seq.{drop-cons}
 use Rattle.std.proofs.lemmas.Nat.{mod-mul-add, div-mul-add}
 use Rattle.lz_cnf.specs.declared.clause.Lit.{Lit}
@@ -11,7 +10,7 @@ use Rattle.lz_gates.specs.Circuits.{Circuit, Assignment, value, IsLit, AreLits, 
 use Rattle.lz_gates.proofs.Extending.{makes_then, makes_so, makes_same, still}
 use Rattle.lz_gates.proofs.Gate.{value-negated, variable_of-negated}
 use Rattle.lz_arith.specs.Bits.{bit, word, copies, negations, AreBits}
-use Rattle.lz_arith.proofs.Words.{word_push, word_lt, twice, pow_twice, bit_le}
+use Rattle.lz_arith.proofs.Words.{word_push, word_lt, pow_twice, bit_le}
 use Rattle.lz_arith.proofs.Shifting.{word_front, append_in, word_copies}
 use Rattle.lz_arith.proofs.Adding.{are_lits_more}
 

@@ -1,15 +1,13 @@
 -- Loops that push one literal a turn.
-use Rattle.std.proofs.Common.{◌≡◌, ℕ, zero, suc, ◌+◌, ◌-◌, ◌*◌, ◌^◌, ◌/◌, ◌%◌, ◌<◌, ◌≤◌, Bool, true, false, not, ◌&&◌, cond, eqb, ltb, List, [], ◌∷◌, ◌++◌, length, get_or, take, drop, refl, sym, ◌∙◌, ap, subst, arith, add-one}
-use Rattle.std.specs.List.{All}
-use Rattle.std.proofs.lemmas.List.{append-nil, append_assoc, length-append, length_push, length-take-le, take_more, take_all}
+use Rattle.std.proofs.Common.{◌≡◌, ℕ, ◌+◌, ◌*◌, ◌^◌, ◌<◌, ◌≤◌, Bool, true, false, ◌&&◌, cond, ltb, List, [], ◌∷◌, ◌++◌, length, get_or, take, refl, ◌∙◌, ap, subst, arith}
+use Rattle.std.proofs.lemmas.List.{length_push, length-take-le, take_all}
 use Rattle.std.proofs.lemmas.List.Elements.{All-push}
 use Rattle.std.proofs.lemmas.Bool.Decides.{nat_tests}
 use Rattle.lz_cnf.specs.declared.clause.Lit.{Lit}
-use Rattle.lz_cnf.specs.Models.{variable_of}
 use Rattle.lz_gates.specs.Circuits.{Circuit, Assignment, value, IsLit, AreLits, Satisfies, Makes, xor, choice}
-use Rattle.lz_gates.proofs.Extending.{makes_then, makes_so, makes_same, still}
+use Rattle.lz_gates.proofs.Extending.{makes_then, makes_so, makes_same}
 use Rattle.lz_arith.specs.Bits.{bit, word, AreBits}
-use Rattle.lz_arith.proofs.Words.{word_push, word_take, word_lt, pow_twice, twice}
+use Rattle.lz_arith.proofs.Words.{word_push, word_take, word_lt}
 use Rattle.lz_arith.proofs.Adding.{are_lits_more}
 
 pub record Grows (start now : Circuit) (left right : List Lit) (test : Lit) (i : ℕ) (bits : List Lit) (variables clauses : ℕ) (Says : Assignment → Type 0) : Type 0 where
@@ -19,7 +17,8 @@ pub record Grows (start now : Circuit) (left right : List Lit) (test : Lit) (i :
   pub bits_in : AreBits now i bits
   pub made : Makes start now variables clauses Says
 
-grows_none : (start : Circuit) (left right : List Lit) (test : Lit) (Says : Assignment → Type 0) → AreLits start left → AreLits start right → IsLit start test → ((a : Assignment) → Says a) → Grows start start left right test 0 [] 0 0 Says
+-- nothing grown
+pub grows_none : (start : Circuit) (left right : List Lit) (test : Lit) (Says : Assignment → Type 0) → AreLits start left → AreLits start right → IsLit start test → ((a : Assignment) → Says a) → Grows start start left right test 0 [] 0 0 Says
 grows_none start left right test Says hl hr h says = record {
   lefts = hl;
   rights = hr;
@@ -28,7 +27,8 @@ grows_none start left right test Says hl hr h says = record {
   made = makes_same start Says (λ a s. says a);
 }
 
-grows_more : (start now next : Circuit) (left right : List Lit) (test lit : Lit) (i : ℕ) (bits : List Lit) (v w x c d e : ℕ) (P Q R : Assignment → Type 0)
+-- one more literal
+pub grows_more : (start now next : Circuit) (left right : List Lit) (test lit : Lit) (i : ℕ) (bits : List Lit) (v w x c d e : ℕ) (P Q R : Assignment → Type 0)
     → Grows start now left right test i bits v c P → Makes now next w d Q → IsLit next lit → v + w ≤ x → c + d ≤ e → ((a : Assignment) → P a → Q a → R a)
     → Grows start next left right test (i + 1) (bits ++ lit ∷ []) x e R
 grows_more start now next left right test lit i bits v w x c d e P Q R h made lit_in le lf both = record {
@@ -42,7 +42,8 @@ grows_more start now next left right test lit i bits v w x c d e P Q R h made li
   made = makes_so start next (v + w) x (c + d) e R R (makes_then start now next v w c d P Q R h.made made both) le lf (λ a s p. p);
 }
 
-push_at : (a : Assignment) (bits : List Lit) (lit : Lit) (i : ℕ) → length bits ≡ i → word a (bits ++ lit ∷ []) ≡ word a bits + 2 ^ i * bit (value a lit)
+-- a word and one more bit
+pub push_at : (a : Assignment) (bits : List Lit) (lit : Lit) (i : ℕ) → length bits ≡ i → word a (bits ++ lit ∷ []) ≡ word a bits + 2 ^ i * bit (value a lit)
 push_at a bits lit i e = word_push a bits lit ∙ ap (λ (n : ℕ). word a bits + 2 ^ n * bit (value a lit)) e
 
 -- ---- a choice
@@ -137,7 +138,8 @@ less_step false false l z v w p lv lw e f = f ∙ e ∙ same
     same : ltb v w ≡ ltb (v + p * 0) (w + p * 0)
     same = grind (arith, nat_tests)
 
-less_at : (a : Assignment) (xs : List Lit) (i : ℕ) → i ≤ length xs → word a (take i xs) < 2 ^ i
+-- a front is below its power
+pub less_at : (a : Assignment) (xs : List Lit) (i : ℕ) → i ≤ length xs → word a (take i xs) < 2 ^ i
 less_at a xs i le = subst (λ (n : ℕ). word a (take i xs) < 2 ^ n) (length-take-le i xs le) (word_lt a (take i xs))
 
 pub less_bit_makes : (one two three : Circuit) (x y l d z : Lit)

@@ -1,16 +1,16 @@
 -- What the other circuits come to, on numbers.
-use Rattle.std.proofs.Common.{◌≡◌, ◌≢◌, ℕ, zero, suc, ◌+◌, ◌-◌, ◌*◌, ◌^◌, ◌/◌, ◌%◌, ◌<◌, ◌≤◌, Bool, true, false, not, cond, eqb, ltb, List, [], ◌∷◌, ◌++◌, length, get_or, take, drop, refl, sym, ◌∙◌, ap, subst, arith, add-one}
-use Rattle.std.proofs.Math.Nat.{add_comm, mul_comm, mul_assoc, mod-mod, add-mod, pow-suc}
-use Rattle.std.proofs.lemmas.Nat.{mod-mul-add, div-mul-add, mul-mod, pow-add}
+use Rattle.std.proofs.Common.{◌≡◌, ℕ, zero, suc, ◌+◌, ◌-◌, ◌*◌, ◌^◌, ◌/◌, ◌%◌, ◌<◌, ◌≤◌, Bool, true, false, not, cond, eqb, ltb, List, [], ◌∷◌, ◌++◌, length, take, drop, refl, sym, ◌∙◌, ap, subst, arith}
+use Rattle.std.proofs.Math.Nat.{add_comm, mul_comm, mul_assoc, mod-mod, pow-suc}
+use Rattle.std.proofs.lemmas.Nat.{div-mul-add, mul-mod, pow-add}
 use Rattle.std.proofs.lemmas.List.{length-take-le}
 use Rattle.std.proofs.lemmas.Bool.Decides.{nat_tests}
 use lib.IntN.{ℤ, pos, neg_ℤ}
 use lib.Signed.{lt_z, quot_z, rem_z}
 use Rattle.std.proofs.lemmas.Int.{ints}
 use Rattle.lz_cnf.specs.declared.clause.Lit.{Lit}
-use Rattle.lz_gates.specs.Circuits.{Assignment, value, xor, choice}
-use Rattle.lz_arith.specs.Bits.{bit, word, negations, copies}
-use Rattle.lz_arith.proofs.Words.{word_append, word_push, word_lt}
+use Rattle.lz_gates.specs.Circuits.{Assignment, value, xor}
+use Rattle.lz_arith.specs.Bits.{bit, word, copies}
+use Rattle.lz_arith.proofs.Words.{word_push, word_lt}
 use Rattle.lz_arith.proofs.Shifting.{word_split}
 use Rattle.lz_arith.proofs.Dividing.{small_mod}
 
@@ -111,13 +111,13 @@ size_is h n m lt e some = by (ltb n h) refl
     by false f = rw f (e ∙ small_mod (h + h - n) (h + h) (grind (arith, nat_tests, f)))
 
 -- the value of a word with sign, as a whole number
-abbrev pub signed : ℕ → ℕ → ℤ
-signed h n = cond (ltb n h) (pos n) (neg_ℤ (pos (h + h - n)))
+abbrev pub signed_by : ℕ → ℕ → ℤ
+signed_by h n = cond (ltb n h) (pos n) (neg_ℤ (pos (h + h - n)))
 
-pub signed_order : (h n m : ℕ) → n < h + h → m < h + h → 0 < h → ltb (flipped h n) (flipped h m) ≡ lt_z (signed h n) (signed h m)
+pub signed_order : (h n m : ℕ) → n < h + h → m < h + h → 0 < h → ltb (flipped h n) (flipped h m) ≡ lt_z (signed_by h n) (signed_by h m)
 signed_order h n m ln lm pos_h = by (ltb n h) (ltb m h) refl refl
   where
-    by : (b c : Bool) → ltb n h ≡ b → ltb m h ≡ c → ltb (flipped h n) (flipped h m) ≡ lt_z (signed h n) (signed h m)
+    by : (b c : Bool) → ltb n h ≡ b → ltb m h ≡ c → ltb (flipped h n) (flipped h m) ≡ lt_z (signed_by h n) (signed_by h m)
     by true true e f = rw (e, f) (grind (arith, nat_tests, ints, e, f))
     by true false e f = rw (e, f) (grind (arith, nat_tests, ints, e, f))
     by false true e f = rw (e, f) (grind (arith, nat_tests, ints, e, f))
@@ -149,9 +149,9 @@ remainder_by_sizes false true x zero h k = let p = k refl in absurd (omega arith
 remainder_by_sizes false true x (suc y) h k = refl
 remainder_by_sizes false false x y h k = refl
 
-pub signed_by_size : (h n : ℕ) → signed h n ≡ with_sign (negative h n) (size h n)
+pub signed_by_size : (h n : ℕ) → signed_by h n ≡ with_sign (negative h n) (size h n)
 signed_by_size h n = by (ltb n h) refl
   where
-    by : (b : Bool) → ltb n h ≡ b → signed h n ≡ with_sign (negative h n) (size h n)
+    by : (b : Bool) → ltb n h ≡ b → signed_by h n ≡ with_sign (negative h n) (size h n)
     by true e = rw e refl
     by false e = rw e refl

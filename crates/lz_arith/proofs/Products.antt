@@ -1,10 +1,9 @@
 -- Products, row by row.
-use Rattle.std.proofs.Common.{◌≡◌, ℕ, zero, suc, ◌+◌, ◌-◌, ◌*◌, ◌^◌, ◌/◌, ◌%◌, ◌<◌, ◌≤◌, Bool, true, false, not, cond, eqb, ltb, List, [], ◌∷◌, ◌++◌, length, get_or, take, drop, refl, sym, ◌∙◌, ap, subst, arith, add-one}
-use Rattle.std.specs.List.{All}
-use Rattle.std.proofs.Math.Nat.{add_comm, mul_comm, mul_assoc, add-mod, mod-mod, mul-le-mul_left}
+use Rattle.std.proofs.Common.{◌≡◌, ℕ, zero, suc, ◌+◌, ◌-◌, ◌*◌, ◌^◌, ◌%◌, ◌<◌, ◌≤◌, Bool, true, false, List, ◌++◌, length, get_or, take, sym, ◌∙◌, ap, arith}
+use Rattle.std.proofs.Math.Nat.{add_comm, add-mod, mod-mod, mul-le-mul_left}
 use Rattle.std.proofs.lemmas.List.{take_all}
 use Rattle.lz_cnf.specs.declared.clause.Lit.{Lit}
-use Rattle.lz_gates.specs.Circuits.{Circuit, Assignment, value, IsLit, AreLits, Satisfies, Makes}
+use Rattle.lz_gates.specs.Circuits.{Circuit, Assignment, value, AreLits, Satisfies, Makes}
 use Rattle.lz_gates.proofs.Extending.{makes_then, makes_so, makes_same, still}
 use Rattle.lz_arith.specs.Bits.{bit, word, copies, AreBits}
 use Rattle.lz_arith.proofs.Words.{word_take}

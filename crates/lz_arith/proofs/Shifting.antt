@@ -1,16 +1,14 @@
 -- Words moved up by a fixed number of places.
-use Rattle.std.proofs.Common.{◌≡◌, ℕ, zero, suc, ◌+◌, ◌-◌, ◌*◌, ◌^◌, ◌/◌, ◌%◌, ◌<◌, ◌≤◌, Bool, true, false, not, cond, eqb, ltb, List, [], ◌∷◌, ◌++◌, length, get_or, take, drop, refl, sym, ◌∙◌, ap, subst, arith, add-one}
-use Rattle.std.specs.List.{All}
-use Rattle.std.proofs.Math.Nat.{add_comm, mul_comm, mul_assoc, add-mod, mod-mod}
-use Rattle.std.proofs.lemmas.Nat.{mod-mul-add, mul-mod, pow-add, pow_pos, shl_below}
-use Rattle.std.proofs.lemmas.List.{append-nil, append_assoc, length-append, length-take-le, length-drop, take_more, take_all}
+use Rattle.std.proofs.Common.{◌≡◌, ℕ, zero, suc, ◌+◌, ◌-◌, ◌*◌, ◌^◌, ◌%◌, ◌<◌, ◌≤◌, false, cond, List, [], ◌∷◌, ◌++◌, length, take, drop, refl, sym, ◌∙◌, ap, subst, arith, add-one}
+use Rattle.std.proofs.Math.Nat.{add_comm, mul_comm}
+use Rattle.std.proofs.lemmas.Nat.{mod-mul-add, pow-add, shl_below}
+use Rattle.std.proofs.lemmas.List.{length-append, length-take-le}
 use Rattle.std.proofs.lemmas.List.Elements.{All-append, All-take}
 use Rattle.lz_cnf.specs.declared.clause.Lit.{Lit}
-use Rattle.lz_cnf.specs.Models.{variable_of}
 use Rattle.lz_gates.specs.Circuits.{Circuit, Assignment, value, IsLit, AreLits, Satisfies, Makes}
-use Rattle.lz_gates.proofs.Extending.{makes_then, makes_so, makes_same, still}
-use Rattle.lz_arith.specs.Bits.{bit, word, copies, AreBits}
-use Rattle.lz_arith.proofs.Words.{word_append, word_push, word_take, word_lt, pow_twice, twice}
+use Rattle.lz_gates.proofs.Extending.{makes_so, still}
+use Rattle.lz_arith.specs.Bits.{word, copies, AreBits}
+use Rattle.lz_arith.proofs.Words.{word_append, word_lt, pow_twice, twice}
 use Rattle.lz_arith.proofs.Adding.{are_lits_more}
 
 pub copies_push : (n : ℕ) (lit : Lit) → copies n lit ++ lit ∷ [] ≡ copies (suc n) lit

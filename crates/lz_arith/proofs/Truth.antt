@@ -1,16 +1,16 @@
 -- The truth test.
-use Rattle.std.proofs.Common.{◌≡◌, ℕ, zero, suc, ◌+◌, ◌-◌, ◌*◌, ◌^◌, ◌/◌, ◌%◌, ◌<◌, ◌≤◌, Bool, true, false, not, ◌&&◌, ◌||◌, cond, eqb, ltb, List, [], ◌∷◌, ◌++◌, length, get_or, take, drop, refl, sym, ◌∙◌, ap, subst, arith, add-one}
+use Rattle.std.proofs.Common.{◌≡◌, ℕ, zero, suc, ◌+◌, ◌*◌, ◌<◌, ◌≤◌, Bool, true, false, not, ◌||◌, eqb, List, [], ◌∷◌, ◌++◌, length, get_or, take, refl, sym, ◌∙◌, ap, arith}
 use Rattle.std.specs.List.{All}
-use Rattle.std.proofs.lemmas.List.{append-nil, append_assoc, length-append, length_push, take_more, take_all}
+use Rattle.std.proofs.lemmas.List.{append-nil, append_assoc, length-append, take_more, take_all}
 use Rattle.std.proofs.lemmas.Bool.Decides.{nat_tests}
 use Rattle.lz_cnf.specs.declared.clause.Lit.{Lit}
 use Rattle.lz_cnf.specs.Models.{variable_of, negated}
-use Rattle.lz_gates.specs.Circuits.{Circuit, Assignment, value, clause_value, Agree, IsBelow, AreBelow, IsLit, AreLits, Satisfies, Makes, Extends}
+use Rattle.lz_gates.specs.Circuits.{Circuit, Assignment, value, clause_value, Agree, AreBelow, AreLits, Satisfies, Makes}
 use Rattle.lz_gates.proofs.Extending.{value_agrees, satisfies_front, satisfies_back, satisfies_append, below_append, makes_so}
-use Rattle.lz_gates.proofs.Gate.{value-negated, value-positive, variable_of-negated, variable_of-positive, extends_by_value}
+use Rattle.lz_gates.proofs.Gate.{value-negated, variable_of-negated, variable_of-positive}
 use Rattle.lz_gates.proofs.GateKinds.{gate_makes}
 use Rattle.lz_gates.proofs.Lists.{below_two}
-use Rattle.lz_arith.specs.Bits.{bit, word, AreBits}
+use Rattle.lz_arith.specs.Bits.{bit, word}
 
 -- each bit makes the test true
 abbrev pub rows : Lit → List Lit → List (List Lit)
@@ -100,7 +100,7 @@ bit_more false v w e = e ∙ ap not half
     half = grind (arith, nat_tests)
 
 -- some bit is true exactly where the word is not 0
-clause_word : (a : Assignment) (xs : List Lit) → clause_value a xs ≡ not (eqb (word a xs) 0)
+pub clause_word : (a : Assignment) (xs : List Lit) → clause_value a xs ≡ not (eqb (word a xs) 0)
 unfolding clause_value word
 clause_word a [] = refl
 clause_word a (x ∷ xs) = bit_more (value a x) (clause_value a xs) (word a xs) (clause_word a xs)

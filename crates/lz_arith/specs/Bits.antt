@@ -1,9 +1,11 @@
 -- Inner: words as lists of literals, lowest bit first.
-use Rattle.std.specs.Prelude.{◌≡◌, ℕ, zero, suc, ◌<◌, ◌≤◌, ◌+◌, ◌*◌, ◌^◌, Bool, true, false, List, [], ◌∷◌, ◌++◌, ◌-◌, length, take, slice_index_or}
-use Rattle.lz_base.specs.Words.{truth}
+use Rattle.std.specs.Prelude.{◌≡◌, ℕ, zero, suc, ◌+◌, ◌*◌, Bool, false, not, nat_lt, List, [], ◌∷◌, ◌++◌, ◌-◌, length, take, slice_index_or}
+use Rattle.lz_base.specs.declared.word.IntType.{IntType}
+use Rattle.lz_base.specs.declared.word.IntType.TheVariants.{Int, Unsigned}
+use Rattle.lz_base.specs.Words.{truth, sign_bound}
 use Rattle.lz_cnf.specs.declared.clause.Lit.{Lit}
 use Rattle.lz_cnf.specs.Models.{negated}
-use Rattle.lz_gates.specs.Circuits.{Circuit, Assignment, value, IsLit, AreLits, Makes}
+use Rattle.lz_gates.specs.Circuits.{Circuit, Assignment, value, AreLits}
 
 -- the number of a truth value
 abbrev pub bit : Bool → ℕ
@@ -32,3 +34,8 @@ top_flipped lits = take (length lits - 1) lits ++ negated (slice_index_or lits (
 abbrev pub negations : List Lit → List Lit
 negations [] = []
 negations (lit ∷ lits) = negated lit ∷ negations lits
+
+-- whether a word of a type stands for a number below zero
+abbrev pub is_negative : IntType → ℕ → Bool
+is_negative Int a = not (nat_lt a sign_bound)
+is_negative Unsigned a = false

@@ -1,9 +1,10 @@
 //! Sums of words.
-ghost use Rattle.std.specs.Prelude.{◌≡◌, ℕ, ◌+◌, ◌*◌, ◌^◌, ◌%◌, ◌<◌, ◌≤◌, IfOk, OnOk, length};
+ghost use Rattle.std.specs.Prelude.{◌≡◌, ℕ, ◌+◌, ◌-◌, ◌*◌, ◌^◌, ◌%◌, ◌<◌, ◌≤◌, IfOk, OnOk, length, if◌then◌else◌};
 ghost use Rattle.lz_gates.specs.Circuits.{Assignment, value, IsLit, AreLits, Makes};
 ghost use Rattle.lz_arith.specs.Bits.{bit, word, AreBits};
 
-use crate::lists::Bits;
+use crate::choose::choose_words;
+use crate::lists::{Bits, inverted, repeated};
 use lz_base::Memory;
 use lz_cnf::Lit;
 use lz_gates::Builder;
@@ -74,4 +75,57 @@ pub(crate) fn add_words(
 {
     let (bits, _) = add_with_carry(alloc, builder, left, right, carry)?;
     Ok(bits)
+}
+
+/// The difference of two words, modulo 2 to their width: the left word, the complement of the right one, and 1.
+pub(crate) fn subtract_words(
+    alloc: Global,
+    builder: &mut Builder,
+    left: &[Lit],
+    right: &[Lit],
+) -> Result<Bits, Memory>
+    requires left { AreLits builder.old left.now }
+    requires right { AreBits builder.old (length left.now) right.now }
+    requires room { builder.old.variables + 3 * length left.now < 2147483648 }
+    ensures bits { IfOk result (AreBits builder.new (length left.now)) }
+    ensures made { IfOk result (λ r. Makes builder.old builder.new (3 * length left.now) (14 * length left.now)
+        (λ a. word a r ≡ (word a left.now + (2 ^ length left.now - word a right.now)) % 2 ^ length left.now)) }
+{
+    let on = builder.truth();
+    let minus = inverted(alloc, right)?;
+    let bits = add_words(alloc, builder, left, minus.items(), on)?;
+    Ok(bits)
+}
+
+/// The word with the other sign, modulo 2 to its width.
+pub(crate) fn minus_word(alloc: Global, builder: &mut Builder, bits: &[Lit]) -> Result<Bits, Memory>
+    requires bits { AreLits builder.old bits.now }
+    requires room { builder.old.variables + 3 * length bits.now < 2147483648 }
+    ensures bits { IfOk result (AreBits builder.new (length bits.now)) }
+    ensures made { IfOk result (λ r. Makes builder.old builder.new (3 * length bits.now) (14 * length bits.now)
+        (λ a. word a r ≡ (2 ^ length bits.now - word a bits.now) % 2 ^ length bits.now)) }
+{
+    let off = builder.falsity();
+    let zeros = repeated(alloc, off, bits.len())?;
+    let minus = subtract_words(alloc, builder, zeros.items(), bits)?;
+    Ok(minus)
+}
+
+/// The word with the other sign where the literal is true, and the word itself else.
+pub(crate) fn minus_where(
+    alloc: Global,
+    builder: &mut Builder,
+    test: Lit,
+    bits: &[Lit],
+) -> Result<Bits, Memory>
+    requires test { IsLit builder.old test }
+    requires bits { AreLits builder.old bits.now }
+    requires room { builder.old.variables + 4 * length bits.now < 2147483648 }
+    ensures bits { IfOk result (AreBits builder.new (length bits.now)) }
+    ensures made { IfOk result (λ r. Makes builder.old builder.new (4 * length bits.now) (20 * length bits.now)
+        (λ a. word a r ≡ (if value a test then (2 ^ length bits.now - word a bits.now) % 2 ^ length bits.now else word a bits.now))) }
+{
+    let minus = minus_word(alloc, builder, bits)?;
+    let chosen = choose_words(alloc, builder, test, minus.items(), bits)?;
+    Ok(chosen)
 }

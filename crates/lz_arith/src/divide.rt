@@ -1,14 +1,16 @@
-//! Quotient and remainder of words without sign.
-ghost use Rattle.std.specs.Prelude.{◌≡◌, ◌++◌, ◌∷◌, [], ℕ, ◌+◌, ◌-◌, ◌*◌, ◌^◌, ◌/◌, ◌%◌, ◌<◌, ◌≤◌, IfOk, OnOk, length};
+//! Quotients and remainders of words (restoring division), without and with sign.
+ghost use Rattle.std.specs.Prelude.{◌≡◌, ◌++◌, ◌∷◌, [], ℕ, ◌+◌, ◌-◌, ◌*◌, ◌^◌, ◌/◌, ◌%◌, ◌<◌, ◌≤◌, IfOk, OnOk, length, ◌==◌, if◌then◌else◌, int_div, int_rem};
+ghost use Rattle.lz_base.specs.Words.{signed, wrapped, binary_value};
 ghost use Rattle.lz_gates.specs.Circuits.{Assignment, value, IsLit, AreLits, Makes};
 ghost use Rattle.lz_arith.specs.Bits.{bit, word, negations, AreBits};
 
-use crate::add::add_with_carry;
-use crate::choose::choose_words;
+use crate::add::{add_with_carry, minus_where};
+use crate::choose::{choose_words, mask_word};
 use crate::lists::{Bits, complement, one_before, repeated};
-use lz_base::Memory;
+use crate::nonzero::truth_test;
+use lz_base::{Binary, IntType, Memory};
 use lz_cnf::Lit;
-use lz_gates::{Builder, negation};
+use lz_gates::Builder;
 use std::alloc::Global;
 
 /// One step of a long division: the rest takes in the next digit, and the divisor is taken off where it fits.
@@ -68,4 +70,182 @@ pub(crate) fn divide_words(
         rest = next;
     }
     Ok((quotient, rest))
+}
+
+/// The quotient of two words with sign, where the divisor is not 0: by their sizes, with the sign of both.
+fn signed_quotient(
+    alloc: Global,
+    builder: &mut Builder,
+    left: &[Lit],
+    divisor: &[Lit],
+) -> Result<Bits, Memory>
+    requires left { AreBits builder.old 32 left.now }
+    requires divisor { AreBits builder.old 32 divisor.now }
+    requires room { builder.old.variables + 4577 < 2147483648 }
+    ensures bits { IfOk result (AreBits builder.new 32) }
+    ensures made { IfOk result (λ r. Makes builder.old builder.new 4577 22852
+        (λ a. 0 < word a divisor.now → word a r ≡ wrapped (int_div (signed IntType.Int (word a left.now)) (signed IntType.Int (word a divisor.now))))) }
+{
+    let size = minus_where(alloc, builder, left[31], left)?;
+    let by = minus_where(alloc, builder, divisor[31], divisor)?;
+    let (quotient, _) = divide_words(alloc, builder, size.items(), by.items())?;
+    let sign = builder.xor_gate(left[31], divisor[31])?;
+    let signed = minus_where(alloc, builder, sign, quotient.items())?;
+    Ok(signed)
+}
+
+/// The remainder of two words with sign, where the divisor is not 0: by their sizes, with the sign of the left word.
+fn signed_remainder(
+    alloc: Global,
+    builder: &mut Builder,
+    left: &[Lit],
+    divisor: &[Lit],
+) -> Result<Bits, Memory>
+    requires left { AreBits builder.old 32 left.now }
+    requires divisor { AreBits builder.old 32 divisor.now }
+    requires room { builder.old.variables + 4577 < 2147483648 }
+    ensures bits { IfOk result (AreBits builder.new 32) }
+    ensures made { IfOk result (λ r. Makes builder.old builder.new 4577 22852
+        (λ a. 0 < word a divisor.now → word a r ≡ wrapped (int_rem (signed IntType.Int (word a left.now)) (signed IntType.Int (word a divisor.now))))) }
+{
+    let size = minus_where(alloc, builder, left[31], left)?;
+    let by = minus_where(alloc, builder, divisor[31], divisor)?;
+    let (_, rest) = divide_words(alloc, builder, size.items(), by.items())?;
+    let signed = minus_where(alloc, builder, left[31], rest.items())?;
+    Ok(signed)
+}
+
+/// The word where the divisor is not 0, and 0 else.
+fn unless_zero(
+    alloc: Global,
+    builder: &mut Builder,
+    divisor: &[Lit],
+    bits: &[Lit],
+) -> Result<Bits, Memory>
+    requires divisor { AreBits builder.old 32 divisor.now }
+    requires bits { AreBits builder.old 32 bits.now }
+    requires room { builder.old.variables + 33 < 2147483648 }
+    ensures bits { IfOk result (AreBits builder.new 32) }
+    ensures made { IfOk result (λ r. Makes builder.old builder.new 33 129
+        (λ a. word a r ≡ (if word a divisor.now == 0 then 0 else word a bits.now))) }
+{
+    let test = truth_test(alloc, builder, divisor)?;
+    let masked = mask_word(alloc, builder, test, bits)?;
+    Ok(masked)
+}
+
+/// The quotient of two words without sign, where the divisor is not 0.
+fn plain_quotient(
+    alloc: Global,
+    builder: &mut Builder,
+    left: &[Lit],
+    divisor: &[Lit],
+) -> Result<Bits, Memory>
+    requires left { AreBits builder.old 32 left.now }
+    requires divisor { AreBits builder.old 32 divisor.now }
+    requires room { builder.old.variables + 4577 < 2147483648 }
+    ensures bits { IfOk result (AreBits builder.new 32) }
+    ensures made { IfOk result (λ r. Makes builder.old builder.new 4577 22852
+        (λ a. 0 < word a divisor.now → word a r ≡ wrapped (int_div (signed IntType.Unsigned (word a left.now)) (signed IntType.Unsigned (word a divisor.now))))) }
+{
+    let (quotient, _) = divide_words(alloc, builder, left, divisor)?;
+    Ok(quotient)
+}
+
+/// The quotient of two words of the kind `t`, where the divisor is not 0.
+fn quotient_of_kind(
+    alloc: Global,
+    builder: &mut Builder,
+    t: IntType,
+    left: &[Lit],
+    divisor: &[Lit],
+) -> Result<Bits, Memory>
+    requires left { AreBits builder.old 32 left.now }
+    requires divisor { AreBits builder.old 32 divisor.now }
+    requires room { builder.old.variables + 4577 < 2147483648 }
+    ensures bits { IfOk result (AreBits builder.new 32) }
+    ensures made { IfOk result (λ r. Makes builder.old builder.new 4577 22852
+        (λ a. 0 < word a divisor.now → word a r ≡ wrapped (int_div (signed t (word a left.now)) (signed t (word a divisor.now))))) }
+{
+    match t {
+        IntType::Int => signed_quotient(alloc, builder, left, divisor),
+        IntType::Unsigned => plain_quotient(alloc, builder, left, divisor),
+    }
+}
+
+/// The quotient of two words of the kind `t`; 0 where the divisor is 0.
+pub(crate) fn quotient_word(
+    alloc: Global,
+    builder: &mut Builder,
+    t: IntType,
+    left: &[Lit],
+    divisor: &[Lit],
+) -> Result<Bits, Memory>
+    requires left { AreBits builder.old 32 left.now }
+    requires divisor { AreBits builder.old 32 divisor.now }
+    requires room { builder.old.variables + 4610 < 2147483648 }
+    ensures bits { IfOk result (AreBits builder.new 32) }
+    ensures made { IfOk result (λ r. Makes builder.old builder.new 4610 22981 (λ a. word a r ≡ binary_value Binary.Div (word a left.now) (word a divisor.now) t)) }
+{
+    let bits = quotient_of_kind(alloc, builder, t, left, divisor)?;
+    let masked = unless_zero(alloc, builder, divisor, bits.items())?;
+    Ok(masked)
+}
+
+/// The remainder of two words without sign, where the divisor is not 0.
+fn plain_remainder(
+    alloc: Global,
+    builder: &mut Builder,
+    left: &[Lit],
+    divisor: &[Lit],
+) -> Result<Bits, Memory>
+    requires left { AreBits builder.old 32 left.now }
+    requires divisor { AreBits builder.old 32 divisor.now }
+    requires room { builder.old.variables + 4577 < 2147483648 }
+    ensures bits { IfOk result (AreBits builder.new 32) }
+    ensures made { IfOk result (λ r. Makes builder.old builder.new 4577 22852
+        (λ a. 0 < word a divisor.now → word a r ≡ wrapped (int_rem (signed IntType.Unsigned (word a left.now)) (signed IntType.Unsigned (word a divisor.now))))) }
+{
+    let (_, rest) = divide_words(alloc, builder, left, divisor)?;
+    Ok(rest)
+}
+
+/// The remainder of two words of the kind `t`, where the divisor is not 0.
+fn remainder_of_kind(
+    alloc: Global,
+    builder: &mut Builder,
+    t: IntType,
+    left: &[Lit],
+    divisor: &[Lit],
+) -> Result<Bits, Memory>
+    requires left { AreBits builder.old 32 left.now }
+    requires divisor { AreBits builder.old 32 divisor.now }
+    requires room { builder.old.variables + 4577 < 2147483648 }
+    ensures bits { IfOk result (AreBits builder.new 32) }
+    ensures made { IfOk result (λ r. Makes builder.old builder.new 4577 22852
+        (λ a. 0 < word a divisor.now → word a r ≡ wrapped (int_rem (signed t (word a left.now)) (signed t (word a divisor.now))))) }
+{
+    match t {
+        IntType::Int => signed_remainder(alloc, builder, left, divisor),
+        IntType::Unsigned => plain_remainder(alloc, builder, left, divisor),
+    }
+}
+
+/// The remainder of two words of the kind `t`; 0 where the divisor is 0.
+pub(crate) fn remainder_word(
+    alloc: Global,
+    builder: &mut Builder,
+    t: IntType,
+    left: &[Lit],
+    divisor: &[Lit],
+) -> Result<Bits, Memory>
+    requires left { AreBits builder.old 32 left.now }
+    requires divisor { AreBits builder.old 32 divisor.now }
+    requires room { builder.old.variables + 4610 < 2147483648 }
+    ensures bits { IfOk result (AreBits builder.new 32) }
+    ensures made { IfOk result (λ r. Makes builder.old builder.new 4610 22981 (λ a. word a r ≡ binary_value Binary.Rem (word a left.now) (word a divisor.now) t)) }
+{
+    let bits = remainder_of_kind(alloc, builder, t, left, divisor)?;
+    let masked = unless_zero(alloc, builder, divisor, bits.items())?;
+    Ok(masked)
 }

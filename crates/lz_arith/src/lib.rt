@@ -1,13 +1,19 @@
-//! Circuits of words.
+//! The word operators of the checked language as circuits, each equal to its operator in every model.
 #![tactic(auto)]
 
 mod add;
+mod bitwise;
 mod choose;
 mod compare;
 mod divide;
 mod lists;
 mod nonzero;
+mod operators;
 mod product;
 mod shift;
 
 pub use lists::Bits;
+pub use operators::{binary_bits, choose_bits, convert_bits, unary_bits};
+
+#[cfg(test)]
+mod tests;

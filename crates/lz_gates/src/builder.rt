@@ -5,7 +5,7 @@ ghost use Rattle.std.specs.List.{All};
 ghost use Rattle.lz_cnf.specs.Models.{IsFormula};
 ghost use Rattle.lz_gates.specs.Circuits.{Assignment, Satisfies, value, xor, choice, IsLit, AreLits, IsCircuit, Makes, first_clauses};
 
-use crate::fold::{folded_and, folded_choice, folded_xor, negation};
+use crate::fold::{folded_and, folded_choice, folded_xor};
 use lz_base::{Memory, Sequence};
 use lz_cnf::{Clause, Clauses, Cnf, Lit};
 use std::alloc::Global;
@@ -94,10 +94,10 @@ impl Builder {
         ensures stays_spent { self.old.spent ≡ true → IsErr result }
     {
         let gate = self.fresh()?;
-        let off = negation(gate);
+        let off = gate.negated();
         self.require(&[off, left])?;
         self.require(&[off, right])?;
-        self.require(&[gate, negation(left), negation(right)])?;
+        self.require(&[gate, left.negated(), right.negated()])?;
         Ok(gate)
     }
 
@@ -136,11 +136,11 @@ impl Builder {
         ensures stays_spent { self.old.spent ≡ true → IsErr result }
     {
         let gate = self.fresh()?;
-        let off = negation(gate);
+        let off = gate.negated();
         self.require(&[off, left, right])?;
-        self.require(&[off, negation(left), negation(right)])?;
-        self.require(&[gate, negation(left), right])?;
-        self.require(&[gate, left, negation(right)])?;
+        self.require(&[off, left.negated(), right.negated()])?;
+        self.require(&[gate, left.negated(), right])?;
+        self.require(&[gate, left, right.negated()])?;
         Ok(gate)
     }
 
@@ -180,12 +180,12 @@ impl Builder {
         ensures stays_spent { self.old.spent ≡ true → IsErr result }
     {
         let gate = self.fresh()?;
-        let off = negation(gate);
-        self.require(&[negation(test), negation(yes), gate])?;
-        self.require(&[negation(test), yes, off])?;
-        self.require(&[test, negation(no), gate])?;
+        let off = gate.negated();
+        self.require(&[test.negated(), yes.negated(), gate])?;
+        self.require(&[test.negated(), yes, off])?;
+        self.require(&[test, no.negated(), gate])?;
         self.require(&[test, no, off])?;
-        self.require(&[negation(yes), negation(no), gate])?;
+        self.require(&[yes.negated(), no.negated(), gate])?;
         self.require(&[yes, no, off])?;
         Ok(gate)
     }

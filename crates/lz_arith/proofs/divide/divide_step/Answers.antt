@@ -1,12 +1,10 @@
-use Rattle.std.proofs.Common.{◌≡◌, ℕ, ◌+◌, ◌*◌, ◌∙◌, ap, sym, subst, refl, arith, length, List, take, cond}
+use Rattle.std.proofs.Common.{◌≡◌, ◌+◌, ◌∙◌, ap, sym, subst, refl, arith, length, List, take}
 use Rattle.std.proofs.lemmas.List.{length-take-le}
 use Rattle.lz_cnf.specs.declared.clause.Lit.{Lit}
-use Rattle.lz_gates.specs.Circuits.{Makes, value}
 use Rattle.lz_gates.proofs.Extending.{makes_so}
-use Rattle.lz_arith.specs.Bits.{AreBits, word}
 use Rattle.lz_arith.proofs.Adding.{are_lits_more}
 use Rattle.lz_arith.proofs.Shifting.{take_in, bits_of}
-use Rattle.lz_arith.proofs.Dividing.{Parts, parts, step_makes}
+use Rattle.lz_arith.proofs.Dividing.{parts, step_makes}
 use Rattle.lz_arith.proofs.divide.divide_step.Goals as goal
 
 pub add_with_carry-requires : goal.add_with_carry-requires

@@ -1,7 +1,4 @@
-use Rattle.std.proofs.Common.{◌≡◌, ◌+◌, ◌*◌, ◌<◌, get_or, ℕ, ◌∙◌, ap, sym, subst, refl, arith, length, List, ◌∷◌, []}
-use Rattle.lz_cnf.specs.declared.clause.Lit.{Lit}
-use Rattle.lz_gates.specs.Circuits.{Makes, value}
-use Rattle.lz_arith.specs.Bits.{word, bit}
+use Rattle.std.proofs.Common.{sym, refl, arith, length}
 use Rattle.lz_arith.proofs.Shifting.{length-copies, copies_in, bits_of}
 use Rattle.lz_arith.proofs.Dividing.{divides_none, divides_turn, divides_all, digits_room}
 use Rattle.lz_arith.proofs.divide.divide_words.Goals as goal

@@ -1,4 +1,4 @@
-use Rattle.std.proofs.Common.{◌≡◌, ℕ, ap, ◌∙◌, sym, arith, add-one, List, ◌++◌, ◌∷◌, []}
+use Rattle.std.proofs.Common.{ℕ, ap, ◌∙◌, sym, add-one, List, ◌++◌, ◌∷◌, []}
 use Rattle.lz_cnf.specs.declared.clause.Lit.{Lit}
 use Rattle.lz_arith.specs.Bits.{copies}
 use Rattle.lz_arith.proofs.Shifting.{copies_push}

@@ -1,7 +1,7 @@
-use Rattle.std.proofs.Common.{◌≡◌, ℕ, ◌+◌, ◌*◌, ◌%◌, ◌^◌, ◌∙◌, ap, sym, subst, refl, arith, length, List}
+use Rattle.std.proofs.Common.{◌≡◌, ◌+◌, ◌*◌, ◌%◌, ◌^◌, ◌∙◌, sym, subst, refl, arith, length, List}
 use Rattle.lz_cnf.specs.declared.clause.Lit.{Lit}
-use Rattle.lz_gates.specs.Circuits.{AreLits, Assignment, Makes, value}
-use Rattle.lz_arith.specs.Bits.{AreBits, word, bit}
+use Rattle.lz_gates.specs.Circuits.{Makes, value}
+use Rattle.lz_arith.specs.Bits.{word, bit}
 use Rattle.lz_arith.proofs.Adding.{are_lits_more}
 use Rattle.lz_arith.proofs.Shifting.{moved_bits, bits_of}
 use Rattle.lz_arith.proofs.Products.{row_makes}
