@@ -7,7 +7,7 @@ ghost use Rattle.lz_arith.specs.Bitwise.{bitwise_value, bitwise_number};
 use crate::lists::Bits;
 use lz_base::Memory;
 use lz_cnf::Lit;
-use lz_gates::{Builder, negation};
+use lz_gates::Builder;
 use std::alloc::Global;
 
 /// What is made of two bits.
@@ -26,8 +26,8 @@ pub(crate) fn or_gate(builder: &mut Builder, left: Lit, right: Lit) -> Result<Li
     ensures lit { IfOk result (IsLit builder.new) }
     ensures made { IfOk result (λ lit. Makes builder.old builder.new 1 3 (λ a. value a lit ≡ bitwise_value Bitwise.Or (value a left) (value a right))) }
 {
-    let neither = builder.and_gate(negation(left), negation(right))?;
-    Ok(negation(neither))
+    let neither = builder.and_gate(left.negated(), right.negated())?;
+    Ok(neither.negated())
 }
 
 /// The gate of one bit.

@@ -4,7 +4,6 @@ ghost use Rattle.lz_arith.specs.Bits.{copies, negations, top_flipped};
 
 use lz_base::{Memory, Sequence};
 use lz_cnf::Lit;
-use lz_gates::negation;
 use std::alloc::Global;
 
 /// The literals of a word, from the lowest bit.
@@ -46,7 +45,7 @@ pub(crate) fn inverted(alloc: Global, bits: &[Lit]) -> Result<Bits, Memory>
 {
     let mut result = Bits::new(alloc);
     for i in 0..bits.len() {
-        result.push(negation(bits[i]))?;
+        result.push(bits[i].negated())?;
     }
     Ok(result)
 }
@@ -70,7 +69,7 @@ pub(crate) fn flipped(alloc: Global, bits: &[Lit]) -> Result<Bits, Memory>
     let top = bits.len() - 1;
     let mut result = Bits::new(alloc);
     result.append(&bits[..top])?;
-    result.push(negation(bits[top]))?;
+    result.push(bits[top].negated())?;
     Ok(result)
 }
 

@@ -2,13 +2,11 @@
 
 ghost use Rattle.std.specs.Prelude.{◌≡◌, ◌<◌, ◌^◌, ◌++◌, codes, OnOk, IfOk, List};
 ghost use Rattle.std.specs.List.{flat_map};
-ghost use Rattle.std.specs.Fmt.{decimal};
 ghost use Rattle.lz_model.specs.Rounds.{rounds_of, threads_of};
 ghost use Rattle.lz_cli.specs.Report.{report, success_line, kind_word, step_line, status_of, IsPrintable};
 
 use crate::ending::Ending;
 use crate::limits::FILE_LIMIT;
-use itoa::Buffer;
 use lz_base::{BreakKind, Bytes, Memory, Name};
 use lz_model::{Schedule, Step, rounds};
 use std::alloc::Global;
@@ -42,9 +40,9 @@ fn successful(alloc: Global, unwind: u32, rounds: u32) -> Result<Bytes, Memory>
 {
     let mut text = Bytes::new(alloc);
     text.append(b"SUCCESSFUL unwind ")?;
-    append_number(&mut text, u64::from(unwind))?;
+    text.append_number(u64::from(unwind))?;
     text.append(b" rounds ")?;
-    append_number(&mut text, u64::from(rounds))?;
+    text.append_number(u64::from(rounds))?;
     text.append(b"\n")?;
     Ok(text)
 }
@@ -57,9 +55,9 @@ fn failed(alloc: Global, kind: BreakKind, line: u32, schedule: &Schedule) -> Res
     text.append(b"FAILED\ncheck ")?;
     text.append(word_of(kind))?;
     text.append(b" line ")?;
-    append_number(&mut text, u64::from(line))?;
+    text.append_number(u64::from(line))?;
     text.append(b"\nrounds ")?;
-    append_number(&mut text, u64::from(rounds(schedule)))?;
+    text.append_number(u64::from(rounds(schedule)))?;
     text.append(b"\n")?;
     append_steps(&mut text, schedule)?;
     Ok(text)
@@ -70,7 +68,7 @@ fn not_built(alloc: Global, line: u32) -> Result<Bytes, Memory>
 {
     let mut text = Bytes::new(alloc);
     text.append(b"NOTBUILT line ")?;
-    append_number(&mut text, u64::from(line))?;
+    text.append_number(u64::from(line))?;
     text.append(b"\n")?;
     Ok(text)
 }
@@ -80,7 +78,7 @@ fn file_too_long(alloc: Global) -> Result<Bytes, Memory>
 {
     let mut text = Bytes::new(alloc);
     text.append(b"LIMIT file over ")?;
-    append_number(&mut text, FILE_LIMIT)?;
+    text.append_number(FILE_LIMIT)?;
     text.append(b" bytes\n")?;
     Ok(text)
 }
@@ -121,22 +119,14 @@ fn word_of(kind: BreakKind) -> &'static [u8]
     }
 }
 
-/// Adds a number in decimal digits.
-fn append_number(text: &mut Bytes, number: u64) -> Result<(), Memory>
-    ensures { OnOk result (text.new ≡ text.old ++ decimal number) }
-{
-    let mut buffer = Buffer::new();
-    text.append(buffer.format(number).as_bytes())
-}
-
 /// Adds the line of a step.
 fn append_step(text: &mut Bytes, step: Step) -> Result<(), Memory>
     ensures { OnOk result (text.new ≡ text.old ++ step_line step) }
 {
     text.append(b"step ")?;
-    append_number(text, u64::from(step.thread))?;
+    text.append_number(u64::from(step.thread))?;
     text.append(b" ")?;
-    append_number(text, step.choice)?;
+    text.append_number(step.choice)?;
     text.append(b"\n")
 }
 

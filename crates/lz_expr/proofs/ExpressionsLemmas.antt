@@ -6,9 +6,9 @@ use Rattle.lz_tree.specs.declared.token.TokenKind.TheVariants as kinds
 use Rattle.lz_tree.specs.declared.token.Keyword.TheVariants as keys
 use Rattle.lz_tree.specs.declared.token.Punct.{Punct}
 use Rattle.lz_tree.specs.declared.token.Punct.TheVariants as marks
-use Rattle.lz_tree.specs.declared.operator.Binary.{Binary}
-use Rattle.lz_tree.specs.declared.operator.Binary.TheVariants as ops
-use Rattle.lz_tree.specs.declared.operator.Unary.{Unary}
+use Rattle.lz_base.specs.declared.operator.Binary.{Binary}
+use Rattle.lz_base.specs.declared.operator.Binary.TheVariants as ops
+use Rattle.lz_base.specs.declared.operator.Unary.{Unary}
 use Rattle.lz_tree.specs.Languages.{◌⊙◌, showing, From, NameToken, mark_shown, key_shown, name_shown, name_in, constant_shown, constant_in, ConstantToken, text_shown, text_in, meant_by, mark_in}
 use Rattle.lz_tree.specs.Spelling.{sign_of, step_of, SpellsExpression, SpellsStep, SpellsIndex}
 use Rattle.lz_tree.specs.Trees.{Expression, constant, null, text, object, address, paren, unary, cast, binary, choose, assign, step, call, Index, Expressions, none, and, expressions_of}

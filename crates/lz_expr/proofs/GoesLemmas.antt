@@ -6,7 +6,7 @@ use Rattle.lz_tree.specs.declared.token.TokenKind.{TokenKind}
 use Rattle.lz_tree.specs.declared.token.TokenKind.TheVariants as kinds
 use Rattle.lz_tree.specs.declared.token.Punct.{Punct}
 use Rattle.lz_tree.specs.declared.token.Punct.TheVariants as marks
-use Rattle.lz_tree.specs.declared.operator.Binary.{Binary}
+use Rattle.lz_base.specs.declared.operator.Binary.{Binary}
 use Rattle.lz_tree.specs.Languages.{is_mark, is_mark_kind, same_mark, mark_shown, meant_by, mark_in}
 use Rattle.lz_tree.specs.Spelling.{operator_of, assigning_of, step_of}
 use Rattle.lz_tree.specs.Trees.{Expression, object, address, unary, cast, binary, choose, assign, step, Index, whole, element}

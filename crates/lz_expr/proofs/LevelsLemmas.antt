@@ -6,7 +6,7 @@ use Rattle.lz_tree.specs.declared.token.TokenKind.{TokenKind}
 use Rattle.lz_tree.specs.declared.token.TokenKind.TheVariants as kinds
 use Rattle.lz_tree.specs.declared.token.Punct.{Punct}
 use Rattle.lz_tree.specs.declared.token.Punct.TheVariants as marks
-use Rattle.lz_tree.specs.declared.operator.Binary.{Binary}
+use Rattle.lz_base.specs.declared.operator.Binary.{Binary}
 use Rattle.lz_tree.specs.Languages.{same_mark, meant_by, mark_in, line_at}
 use Rattle.lz_tree.specs.Spelling.{operator_of, SpellsExpression}
 use Rattle.lz_tree.specs.Trees.{Expression, binary, choose, assign}

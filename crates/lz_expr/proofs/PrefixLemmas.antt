@@ -9,7 +9,7 @@ use Rattle.lz_tree.specs.declared.token.Keyword.{Keyword}
 use Rattle.lz_tree.specs.declared.token.Keyword.TheVariants as keys
 use Rattle.lz_tree.specs.declared.token.Punct.{Punct}
 use Rattle.lz_tree.specs.declared.token.Punct.TheVariants as marks
-use Rattle.lz_tree.specs.declared.operator.Unary.TheVariants as signs
+use Rattle.lz_base.specs.declared.operator.Unary.TheVariants as signs
 use Rattle.lz_tree.specs.declared.expression.TypeName.{TypeName}
 use Rattle.lz_tree.specs.declared.expression.TypeName.TheVariants as types
 use Rattle.lz_tree.specs.Languages.{showing, is_mark, is_key, same_key, mark_shown, key_shown, meant_by, line_at}

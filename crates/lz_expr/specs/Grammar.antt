@@ -9,8 +9,8 @@ use Rattle.lz_tree.specs.declared.token.Keyword.{Keyword}
 use Rattle.lz_tree.specs.declared.token.Keyword.TheVariants as keys
 use Rattle.lz_tree.specs.declared.token.Punct.{Punct}
 use Rattle.lz_tree.specs.declared.token.Punct.TheVariants as marks
-use Rattle.lz_tree.specs.declared.operator.Binary.{Binary}
-use Rattle.lz_tree.specs.declared.operator.Unary.{Unary}
+use Rattle.lz_base.specs.declared.operator.Binary.{Binary}
+use Rattle.lz_base.specs.declared.operator.Unary.{Unary}
 use Rattle.lz_tree.specs.declared.expression.TypeName.{TypeName}
 use Rattle.lz_tree.specs.declared.expression.TypeName.TheVariants as types
 use Rattle.lz_tree.specs.Languages.{is_mark, is_key, mark_shown, key_shown, name_shown, meant_by, mark_in, line_at, same_key}

@@ -60,7 +60,8 @@ long_index_number len = 68 + 35 * ((len + 31) / 32 + 32)
 abbrev pub element_number : ℕ → ℕ
 element_number len = if nat_le len 32 then 70 * len + 2 else long_index_number len + 38 * len + 2
 
--- a write of one of so many words, by an index
+-- a write of one of so many words, by an index; it counts with the number of its statement or instruction, and is 0
+-- where there is no word
 abbrev pub write_number : ℕ → ℕ
 write_number len = if nat_le len 32 then 73 * len else long_index_number len + 41 * len
 

@@ -4,21 +4,9 @@ use Rattle.std.proofs.lemmas.Bool.{eqb-true, eqb-false}
 use Rattle.std.proofs.lemmas.Bool.Decides.{nat_tests}
 use Rattle.lz_cnf.specs.declared.clause.Lit.{Lit}
 use Rattle.lz_cnf.specs.Models.{variable_of, is_negated, negated}
+use Rattle.lz_cnf.proofs.LitLemmas.{is_negated-negated}
+pub use Rattle.lz_cnf.proofs.LitLemmas.{variable_of-negated}
 use Rattle.lz_gates.specs.Circuits.{Circuit, Assignment, value, Satisfies, Agree, AreBelow, Extends}
-
-pub sign_flips : (n : ℕ) (odd : Bool) → eqb (n % 2) 1 ≡ odd → (cond odd (n - 1) (n + 1) / 2 ≡ n / 2) × (eqb (cond odd (n - 1) (n + 1) % 2) 1 ≡ not odd)
-sign_flips n true e =
-    let one : n % 2 ≡ 1 = eqb-true (n % 2) 1 e in
-    let even : (n - 1) % 2 ≡ 0 = omega arith in
-    (omega arith, ap (λ (r : ℕ). eqb r 1) even)
-sign_flips n false e =
-    let not_one = eqb-false (n % 2) 1 e in
-    let even : n % 2 ≡ 0 = omega (arith, not_one) in
-    let one : (n + 1) % 2 ≡ 1 = omega arith in
-    (omega arith, ap (λ (r : ℕ). eqb r 1) one)
-
-pub variable_of-negated : (lit : Lit) → variable_of (negated lit) ≡ variable_of lit
-variable_of-negated lit = (sign_flips lit.0 (is_negated lit) refl).0
 
 cond-not : (b v : Bool) → cond (not b) (not v) v ≡ not (cond b (not v) v)
 cond-not true true = refl
@@ -29,9 +17,8 @@ cond-not false false = refl
 pub value-negated : (a : Assignment) (lit : Lit) → value a (negated lit) ≡ not (value a lit)
 unfolding value
 value-negated a lit =
-    let flip = sign_flips lit.0 (is_negated lit) refl in
-    ap (λ (x : ℕ). cond (is_negated (negated lit)) (not (a x)) (a x)) flip.0
-    ∙ ap (λ (b : Bool). cond b (not (a (variable_of lit))) (a (variable_of lit))) flip.1
+    ap (λ (x : ℕ). cond (is_negated (negated lit)) (not (a x)) (a x)) (variable_of-negated lit)
+    ∙ ap (λ (b : Bool). cond b (not (a (variable_of lit))) (a (variable_of lit))) (is_negated-negated lit)
     ∙ cond-not (is_negated lit) (a (variable_of lit))
 
 pub positive : ℕ → Lit

@@ -5,7 +5,7 @@ ghost use Rattle.std.specs.List.{All};
 ghost use Rattle.lz_cnf.specs.Models.{IsFormula};
 ghost use Rattle.lz_gates.specs.Circuits.{Assignment, Satisfies, value, xor, choice, IsLit, AreLits, IsCircuit, Makes, first_clauses};
 
-use crate::fold::{folded_and, folded_choice, folded_xor, negation};
+use crate::fold::{folded_and, folded_choice, folded_xor};
 use lz_base::{Memory, Sequence};
 use lz_cnf::{Clause, Clauses, Cnf, Lit};
 use std::alloc::Global;
@@ -47,6 +47,7 @@ impl Builder {
         ensures lit { IfOk result (λ lit. lit.0 ≡ 2 * self.old.variables) }
         ensures variables { OnOk result (self.new.variables ≡ self.old.variables + 1) }
         ensures clauses { OnOk result (self.new.clauses ≡ self.old.clauses) }
+        ensures working { OnOk result (self.new.spent ≡ false) }
         ensures err { OnErr result (self.new.spent ≡ true) }
         ensures stays_spent { self.old.spent ≡ true → IsErr result }
     {
@@ -62,9 +63,9 @@ impl Builder {
     pub fn require(&mut self, clause: &[Lit]) -> Result<(), Memory>
         requires some { 0 < length clause.now }
         requires lits { AreLits self.old clause.now }
-        ensures working { OnOk result (self.new.spent ≡ false) }
         ensures variables { OnOk result (self.new.variables ≡ self.old.variables) }
         ensures clauses { OnOk result (self.new.clauses ≡ self.old.clauses ++ clause.now ∷ []) }
+        ensures working { OnOk result (self.new.spent ≡ false) }
         ensures err { OnErr result (self.new.spent ≡ true) }
         ensures stays_spent { self.old.spent ≡ true → IsErr result }
     {
@@ -90,14 +91,15 @@ impl Builder {
         ensures more { OnOk result (self.old.variables ≤ self.new.variables) }
         ensures most { OnOk result (self.new.variables ≤ self.old.variables + 1) }
         ensures made { IfOk result (λ lit. Makes self.old self.new 1 3 (λ a. value a lit ≡ (value a left && value a right))) }
+        ensures working { OnOk result (self.new.spent ≡ false) }
         ensures err { OnErr result (self.new.spent ≡ true) }
         ensures stays_spent { self.old.spent ≡ true → IsErr result }
     {
         let gate = self.fresh()?;
-        let off = negation(gate);
+        let off = gate.negated();
         self.require(&[off, left])?;
         self.require(&[off, right])?;
-        self.require(&[gate, negation(left), negation(right)])?;
+        self.require(&[gate, left.negated(), right.negated()])?;
         Ok(gate)
     }
 
@@ -110,6 +112,7 @@ impl Builder {
         ensures more { OnOk result (self.old.variables ≤ self.new.variables) }
         ensures most { OnOk result (self.new.variables ≤ self.old.variables + 1) }
         ensures made { IfOk result (λ lit. Makes self.old self.new 1 3 (λ a. value a lit ≡ (value a left && value a right))) }
+        ensures working { OnOk result (self.new.spent ≡ false) }
         ensures err { OnErr result (self.new.spent ≡ true) }
         ensures stays_spent { self.old.spent ≡ true → IsErr result }
     {
@@ -132,15 +135,16 @@ impl Builder {
         ensures more { OnOk result (self.old.variables ≤ self.new.variables) }
         ensures most { OnOk result (self.new.variables ≤ self.old.variables + 1) }
         ensures made { IfOk result (λ lit. Makes self.old self.new 1 4 (λ a. value a lit ≡ xor (value a left) (value a right))) }
+        ensures working { OnOk result (self.new.spent ≡ false) }
         ensures err { OnErr result (self.new.spent ≡ true) }
         ensures stays_spent { self.old.spent ≡ true → IsErr result }
     {
         let gate = self.fresh()?;
-        let off = negation(gate);
+        let off = gate.negated();
         self.require(&[off, left, right])?;
-        self.require(&[off, negation(left), negation(right)])?;
-        self.require(&[gate, negation(left), right])?;
-        self.require(&[gate, left, negation(right)])?;
+        self.require(&[off, left.negated(), right.negated()])?;
+        self.require(&[gate, left.negated(), right])?;
+        self.require(&[gate, left, right.negated()])?;
         Ok(gate)
     }
 
@@ -153,6 +157,7 @@ impl Builder {
         ensures more { OnOk result (self.old.variables ≤ self.new.variables) }
         ensures most { OnOk result (self.new.variables ≤ self.old.variables + 1) }
         ensures made { IfOk result (λ lit. Makes self.old self.new 1 4 (λ a. value a lit ≡ xor (value a left) (value a right))) }
+        ensures working { OnOk result (self.new.spent ≡ false) }
         ensures err { OnErr result (self.new.spent ≡ true) }
         ensures stays_spent { self.old.spent ≡ true → IsErr result }
     {
@@ -176,16 +181,17 @@ impl Builder {
         ensures more { OnOk result (self.old.variables ≤ self.new.variables) }
         ensures most { OnOk result (self.new.variables ≤ self.old.variables + 1) }
         ensures made { IfOk result (λ lit. Makes self.old self.new 1 6 (λ a. value a lit ≡ choice (value a test) (value a yes) (value a no))) }
+        ensures working { OnOk result (self.new.spent ≡ false) }
         ensures err { OnErr result (self.new.spent ≡ true) }
         ensures stays_spent { self.old.spent ≡ true → IsErr result }
     {
         let gate = self.fresh()?;
-        let off = negation(gate);
-        self.require(&[negation(test), negation(yes), gate])?;
-        self.require(&[negation(test), yes, off])?;
-        self.require(&[test, negation(no), gate])?;
+        let off = gate.negated();
+        self.require(&[test.negated(), yes.negated(), gate])?;
+        self.require(&[test.negated(), yes, off])?;
+        self.require(&[test, no.negated(), gate])?;
         self.require(&[test, no, off])?;
-        self.require(&[negation(yes), negation(no), gate])?;
+        self.require(&[yes.negated(), no.negated(), gate])?;
         self.require(&[yes, no, off])?;
         Ok(gate)
     }
@@ -200,6 +206,7 @@ impl Builder {
         ensures more { OnOk result (self.old.variables ≤ self.new.variables) }
         ensures most { OnOk result (self.new.variables ≤ self.old.variables + 1) }
         ensures made { IfOk result (λ lit. Makes self.old self.new 1 6 (λ a. value a lit ≡ choice (value a test) (value a yes) (value a no))) }
+        ensures working { OnOk result (self.new.spent ≡ false) }
         ensures err { OnErr result (self.new.spent ≡ true) }
         ensures stays_spent { self.old.spent ≡ true → IsErr result }
     {

@@ -6,7 +6,6 @@ mod fold;
 mod laws;
 
 pub use builder::Builder;
-pub use fold::negation;
 pub use laws::{fresh_values_settle_gates, models_are_assignments, models_extend_once};
 
 #[cfg(test)]

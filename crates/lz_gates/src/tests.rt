@@ -16,12 +16,12 @@ fn gates_have_their_values(rt: HostRuntime) -> Result<(), Fail> {
     let left = builder.fresh().ok().ok_or("memory")?;
     let right = builder.fresh().ok().ok_or("memory")?;
     let both = builder
-        .and_gate(left, negation(right))
+        .and_gate(left, right.negated())
         .ok()
         .ok_or("memory")?;
     let one = builder.xor_gate(left, right).ok().ok_or("memory")?;
     let chosen = builder
-        .choose_gate(left, negation(right), both)
+        .choose_gate(left, right.negated(), both)
         .ok()
         .ok_or("memory")?;
     builder.require(&[left, right]).ok().ok_or("memory")?;
@@ -63,7 +63,7 @@ fn folded_conjunctions(rt: HostRuntime) -> Result<(), Fail> {
     let with_true = builder.and_gate(x, on).ok().ok_or("memory")?;
     let with_false = builder.and_gate(off, x).ok().ok_or("memory")?;
     let equal = builder.and_gate(x, x).ok().ok_or("memory")?;
-    let opposite = builder.and_gate(x, negation(x)).ok().ok_or("memory")?;
+    let opposite = builder.and_gate(x, x.negated()).ok().ok_or("memory")?;
     assert_eq!(rt;
         [with_true.0, with_false.0, equal.0, opposite.0],
         [x.0, off.0, x.0, off.0]
@@ -82,10 +82,10 @@ fn folded_differences(rt: HostRuntime) -> Result<(), Fail> {
     let with_true = builder.xor_gate(on, x).ok().ok_or("memory")?;
     let with_false = builder.xor_gate(x, off).ok().ok_or("memory")?;
     let equal = builder.xor_gate(x, x).ok().ok_or("memory")?;
-    let opposite = builder.xor_gate(negation(x), x).ok().ok_or("memory")?;
+    let opposite = builder.xor_gate(x.negated(), x).ok().ok_or("memory")?;
     assert_eq!(rt;
         [with_true.0, with_false.0, equal.0, opposite.0],
-        [negation(x).0, x.0, off.0, on.0]
+        [x.negated().0, x.0, off.0, on.0]
     );
     let formula = builder.finish();
     assert_eq!(rt; (formula.variables, formula.clauses.items().len()), (2, 1));

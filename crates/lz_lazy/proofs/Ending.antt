@@ -1,6 +1,7 @@
 -- What holds of the encoding holds of the program made, and its lists are short since it is light.
-use Rattle.std.proofs.Common.{◌≡◌, ℕ, zero, suc, ◌+◌, ◌*◌, ◌≤◌, ◌<◌, All, List, [], ◌∷◌, length, map, get_or, refl, sym, ◌∙◌, ap, subst, arith}
+use Rattle.std.proofs.Common.{◌≡◌, ℕ, ◌^◌, replicate, ◌++◌, zero, suc, ◌+◌, ◌*◌, ◌≤◌, ◌<◌, All, List, [], ◌∷◌, length, map, get_or, refl, sym, ◌∙◌, ap, subst, arith}
 use Rattle.std.specs.Prelude.{slice_index_or}
+use Rattle.std.proofs.lemmas.List.{length-append, length-replicate}
 use Rattle.std.proofs.Math.Nat.{mul-le-mul_right}
 use Rattle.lz_base.specs.Words.{value_bound}
 use Rattle.lz_flat.specs.declared.program.Marked.{Marked}
@@ -65,3 +66,14 @@ short flat rounds some h thread =
     let a = code_of_light flat.threads thread in
     let b = light rounds (flat_weight flat) some h in
     omega (arith, a, b)
+
+-- the words of the straight program, where those of the flat one and two more for each thread have room
+pub fewer_words : (flat : Flat) (first : List ℕ) (words threads most : ℕ) → first ≡ encoded_first (flat_program flat) → words ≡ length flat.first → threads ≡ length flat.threads → most ≡ 4294967295 → words + (2 + threads) ≤ most
+    → length first < 4294967296
+fewer_words flat first words threads most same lent codes limit room =
+    let rest : List ℕ = replicate (length (flat_program flat).threads) 0 in
+    let size = ap length same in
+    let whole = length-append flat.first (0 ∷ 0 ∷ rest) in
+    let more = length-replicate {A = ℕ} (length (flat_program flat).threads) 0 in
+    let each = length_threads flat.threads in
+    omega (arith, size, whole, more, each)

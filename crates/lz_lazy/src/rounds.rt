@@ -68,6 +68,7 @@ pub fn sequentialize(alloc: Global, flat: &Flat, rounds: u32) -> Result<Straight
     ensures size { IfOk result (λ made. length made.list ≡ 3 * rounds * (instructions (flat_program flat.now).threads + 4 * length flat.now.threads)) }
     ensures weight { IfOk result (λ made. straight_weight (straight_program made) ≤ rounds * flat_weight (flat_program flat.now)) }
     ensures formed { IfOk result (λ made. IsWellFormed (straight_program made)) }
+    ensures words { IfOk result (λ made. length made.first < 2 ^ 32) }
     ensures lengths { FlatHasLengths (flat_program flat.now) → IfOk result (λ made. StraightHasLengths (straight_program made)) }
 {
     let words = flat.first.items().len() as u64 + (2 + flat.threads.items().len() as u64);

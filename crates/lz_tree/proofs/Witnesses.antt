@@ -4,7 +4,7 @@ use Rattle.lz_tree.specs.declared.token.Token.{Token}
 use Rattle.lz_tree.specs.declared.token.TokenKind.{TokenKind}
 use Rattle.lz_tree.specs.declared.token.TokenKind.TheVariants as kinds
 use Rattle.lz_tree.specs.declared.token.Punct.TheVariants as marks
-use Rattle.lz_tree.specs.declared.operator.Binary.TheVariants as ops
+use Rattle.lz_base.specs.declared.operator.Binary.TheVariants as ops
 use Rattle.lz_tree.specs.Pieces.{piece_of, integer_of, character_of, keyword_of, punct_of, suffix_of, escape_of, digits_of, is_block_comment, is_line_comment, is_text, directive_of, directive_named, defined_of, body_of, value_of, signed_of, constant_at, character_at, is_tail}
 use Rattle.lz_tree.specs.Tokens.{Cut, stopped, whole, cut, first_piece, front_of, behind_piece, meaning}
 use Rattle.lz_tree.specs.Trees.{Expression, object, binary, whole as alone, empty, when, while, absent, branch}

@@ -2,6 +2,7 @@
 -- begins, and defined names are replaced (C99 6.4, 6.10.3).
 use Rattle.std.specs.Prelude.{◌≡◌, ℕ, zero, suc, ◌+◌, ◌-◌, Bool, true, false, not, ◌&&◌, ◌||◌, List, [], ◌∷◌, ◌++◌, length, take, drop, map, count_by, if◌then◌else◌, Option, Some, None, find, option_map}
 use Rattle.std.specs.List.{list_any}
+use Rattle.std.specs.Option.{option_or}
 use Rattle.std.specs.Str.{bytes_eq}
 use Rattle.lz_tree.specs.declared.token.Keyword.{Keyword}
 use Rattle.lz_tree.specs.declared.token.Keyword.TheVariants as keys
@@ -74,11 +75,7 @@ front_of at bytes size = option_map (front size) (standing at (piece_of (take si
 -- the longest piece of at most so many bytes that can stand at the front
 abbrev pub longest : Cutting → List ℕ → ℕ → Option Front
 longest at bytes zero = None
-longest at bytes (suc size) = if_none (front_of at bytes (suc size)) (longest at bytes size)
-  where
-    if_none : Option Front → Option Front → Option Front
-    if_none None other = other
-    if_none (Some found) other = Some found
+longest at bytes (suc size) = option_or (front_of at bytes (suc size)) (longest at bytes size)
 
 -- the longest piece that can stand at the front
 unfoldable pub first_piece : Cutting → List ℕ → Option Front
@@ -194,17 +191,19 @@ pub data Cut : Type 0 where
   whole : (at : Cutting) → Cut
   stopped : (place line : ℕ) → Cut
 
+-- the cut behind the piece at the front, if one can stand there
+abbrev pub go_on : Cutting → Option Front → (Front → Cut) → Cut
+go_on at None next = stopped at.place at.line
+go_on at (Some f) next = next f
+
 -- the bytes are cut to their end; the first so many of them belong to the piece before
 abbrev pub cut_behind : ℕ → Cutting → List ℕ → Cut
 cut_behind size at [] = whole at
 cut_behind (suc size) at (byte ∷ rest) = cut_behind size at rest
 cut_behind zero at (byte ∷ rest) =
-    go_on (first_piece at (byte ∷ rest)) (λ f. cut_behind (f.size - 1) (behind_piece at f.piece (take f.size (byte ∷ rest))) rest)
-  where
-    go_on : Option Front → (Front → Cut) → Cut
-    go_on None next = stopped at.place at.line
-    go_on (Some f) next = next f
+    go_on at (first_piece at (byte ∷ rest)) (λ f. cut_behind (f.size - 1) (behind_piece at f.piece (take f.size (byte ∷ rest))) rest)
 
+-- at the front of a file
 abbrev pub opening : Cutting
 opening = record { line = 1; place = 0; fresh = true; defined = []; names = []; tokens = [] }
 

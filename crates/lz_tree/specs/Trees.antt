@@ -1,8 +1,8 @@
 -- Trusted: the trees of a program as definitions read them, without pointers and capacities.
 use Rattle.std.specs.Prelude.{ℕ, Bool, List, [], ◌∷◌, map, Option, Some, None, option_map, Box}
 use Rattle.std.specs.declared.alloc.Global.{Global}
-use Rattle.lz_tree.specs.declared.operator.Unary.{Unary}
-use Rattle.lz_tree.specs.declared.operator.Binary.{Binary}
+use Rattle.lz_base.specs.declared.operator.Unary.{Unary}
+use Rattle.lz_base.specs.declared.operator.Binary.{Binary}
 use Rattle.lz_tree.specs.declared.token.Form.{Form}
 use Rattle.lz_tree.specs.declared.expression.TypeName.{TypeName}
 use Rattle.lz_tree.specs.declared.expression.Expr.{Expr, Constant, Null, Text, Object', Address', Paren', Unary', Cast', Binary', Choose', Assign', Step', Call', Row_of-Expr, end_of-Expr, more_of-Expr, Held-Target-index, None', Some'}

@@ -2,8 +2,8 @@
 -- empty.
 use Rattle.std.specs.Prelude.{◌≡◌, ◌≢◌, ℕ, ◌≤◌, ◌<◌, Bool, true, false, List, [], ◌∷◌, Option, Some, None, IsSome}
 use Rattle.std.specs.List.{AllByRecursion}
-use Rattle.lz_tree.specs.declared.operator.Binary.{Binary}
-use Rattle.lz_tree.specs.declared.operator.Binary.TheVariants as ops
+use Rattle.lz_base.specs.declared.operator.Binary.{Binary}
+use Rattle.lz_base.specs.declared.operator.Binary.TheVariants as ops
 use Rattle.lz_tree.specs.declared.token.Token.{Token}
 use Rattle.lz_tree.specs.declared.expression.TypeName.{TypeName}
 use Rattle.lz_tree.specs.declared.expression.TypeName.TheVariants as types

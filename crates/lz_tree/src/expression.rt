@@ -1,5 +1,5 @@
-use crate::operator::{Binary, Unary};
 use crate::token::Form;
+use lz_base::{Binary, Unary};
 
 /// A type by its spelling (C99 6.7.2): one variant for each row of words.
 #[derive(Clone, Copy, Debug, PartialEq, Eq)]

@@ -5,14 +5,13 @@
 mod expression;
 pub mod first_form;
 mod measure;
-mod operator;
 mod program;
 mod statement;
 mod token;
 
 pub use expression::{Expr, Exprs, Target, TypeName};
+pub use lz_base::{Binary, Unary};
 pub use measure::height;
-pub use operator::{Binary, Unary};
 pub use program::{External, Externals, Lead, Param, Params, Program};
 pub use statement::{Declarator, Declarators, First, Objects, Stmt, Stmts};
 pub use token::{Form, Keyword, Names, Punct, Token, TokenKind, TokenList, Tokens};

@@ -7,8 +7,8 @@ use Rattle.lz_arith.proofs.lists.inverted.Goals as goal
 
 pub loop-i-preserved : goal.loop-i-preserved
 loop-i-preserved c =
-    c.in_ok-push.ensures.ok ∙ ap (λ (xs : List Lit). xs ++ c.negation.result ∷ []) c.loop-i.invariant
-    ∙ ap (λ (x : Lit). negations (take c.loop-i.i c.args.bits.now) ++ x ∷ []) c.negation.ensures
+    c.in_ok-push.ensures.ok ∙ ap (λ (xs : List Lit). xs ++ c.negated.result ∷ []) c.loop-i.invariant
+    ∙ ap (λ (x : Lit). negations (take c.loop-i.i c.args.bits.now) ++ x ∷ []) c.negated.ensures
     ∙ sym (negations_push (take c.loop-i.i c.args.bits.now) _)
     ∙ ap negations (sym (take_more c.args.bits.now c.loop-i.i (record { 0 = 0 }) c.loop-i-test.true))
 

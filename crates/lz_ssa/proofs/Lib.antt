@@ -1,0 +1,10 @@
+pub mod Loops
+pub mod Evaluating
+pub mod ValueLemmas
+pub mod Drawing
+pub mod Decoding
+pub mod Reading
+pub mod StatementLoop
+pub mod Writing
+pub mod Stating
+pub mod Assigning

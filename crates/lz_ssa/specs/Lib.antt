@@ -1,0 +1,5 @@
+pub mod NodeValues
+pub mod NodeWeight
+pub mod Construction
+pub mod Drafts
+pub mod Assignment
