@@ -3,3 +3,4 @@ pub mod StepLemmas
 pub mod LandingLemmas
 pub mod RoundsLemmas
 pub mod WordsLemmas
+pub mod WeightLemmas
