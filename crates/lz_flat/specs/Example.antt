@@ -3,9 +3,11 @@ use Rattle.std.specs.Prelude.{[], ◌∷◌, true, false}
 use Rattle.lz_base.specs.declared.word.BreakKind.TheVariants.{Assert}
 use Rattle.lz_flat.specs.Programs.{constant, word, Location, assumes, sets, checks, FlatProgram}
 
+-- word 0
 abbrev pub first_word : Location
 first_word = record { first = 0; len = 1; index = constant 0 }
 
+-- the program
 abbrev pub example : FlatProgram
 example = record {
   threads = (record { instr = assumes (word 0); visible = true }

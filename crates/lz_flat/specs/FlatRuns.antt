@@ -27,6 +27,7 @@ onward input l (first ∷ rest) (suc over) memory = onward input (suc l) rest ov
 onward input l (first ∷ rest) zero memory =
     if first.visible then went l memory else behind (did first.instr (input l) memory) (onward input (suc l) rest)
 
+-- a step whose instruction stands first in this code, at this place
 abbrev pub step_from : (ℕ → ℕ) → ℕ → List MarkedInstruction → List ℕ → Ran
 step_from input place [] memory = ended
 step_from input place (first ∷ rest) memory = behind (did first.instr (input place) memory) (onward input (suc place) rest)
@@ -44,6 +45,7 @@ pub data Course : Type 0 where
   stuck : Course
   broken : (kind : BreakKind) (line : ℕ) → Course
 
+-- the course behind a step: what breaks is the last step
 abbrev pub course_behind : Ran → List ℕ → (ℕ → List ℕ → Course) → Course
 course_behind (went place memory) rest next = next place memory
 course_behind held rest next = stuck
@@ -82,6 +84,7 @@ FlatBroken flat rounds =
 
 -- ---- the drive: how a list of inputs is read as a run, block by block
 
+-- behind a step more steps, but behind the end of the thread none
 abbrev pub steps_on : ℕ → List ℕ → Ran → (ℕ → List ℕ → Ran) → Ran
 steps_on place memory (went next_place next_memory) next = next next_place next_memory
 steps_on place memory held next = held
@@ -96,6 +99,7 @@ below (suc most) guess input code place memory =
     if nat_lt place guess then steps_on place memory (step input code place memory) (below most guess input code)
     else went place memory
 
+-- the course behind a block
 abbrev pub block_behind : Ran → (ℕ → List ℕ → Course) → Course
 block_behind (went place memory) next = next place memory
 block_behind held next = stuck

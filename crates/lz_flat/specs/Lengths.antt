@@ -17,9 +17,11 @@ HasLengths (binary op kind left right) = HasLengths left × HasLengths right
 HasLengths (convert from to of) = HasLengths of
 HasLengths (choose test chosen other) = HasLengths test × HasLengths chosen × HasLengths other
 
+-- so with a location
 abbrev pub LocationHasLengths : Location → Type 0
 LocationHasLengths to = IsLength to.len × HasLengths to.index
 
+-- so with an instruction
 abbrev pub InstructionHasLengths : Instruction → Type 0
 InstructionHasLengths (sets to of) = LocationHasLengths to × HasLengths of
 InstructionHasLengths (takes to) = LocationHasLengths to
@@ -27,14 +29,18 @@ InstructionHasLengths (assumes test) = HasLengths test
 InstructionHasLengths (checks test kind line) = HasLengths test
 InstructionHasLengths (skips test by) = HasLengths test
 
+-- so with code
 abbrev pub CodeHasLengths : List MarkedInstruction → Type 0
 CodeHasLengths code = AllByRecursion (λ first. InstructionHasLengths first.instr) code
 
+-- so with a flat program
 abbrev pub FlatHasLengths : FlatProgram → Type 0
 FlatHasLengths flat = AllByRecursion CodeHasLengths flat.threads
 
+-- so with a statement
 abbrev pub StatementHasLengths : Statement → Type 0
 StatementHasLengths statement = HasLengths statement.guard × InstructionHasLengths statement.instr
 
+-- so with a straight program
 abbrev pub StraightHasLengths : StraightProgram → Type 0
 StraightHasLengths straight = AllByRecursion StatementHasLengths straight.list

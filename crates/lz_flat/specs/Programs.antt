@@ -1,5 +1,5 @@
 -- Trusted: flat and straight programs as definitions read them, without pointers and capacities.
-use Rattle.std.specs.Prelude.{ℕ, Bool, List, [], map, slice_index_or}
+use Rattle.std.specs.Prelude.{ℕ, ◌+◌, Bool, List, [], ◌∷◌, length, map, slice_index_or}
 use Rattle.lz_base.specs.declared.operator.Unary.{Unary}
 use Rattle.lz_base.specs.declared.operator.Binary.{Binary}
 use Rattle.lz_base.specs.declared.word.IntType.{IntType}
@@ -59,6 +59,7 @@ pub record StraightProgram : Type 0 where
 
 -- ---- what the types of the code stand for
 
+-- an expression
 abbrev pub expression : FlatExpr → Expression
 expression (Constant value) = constant value
 expression (Word place) = word place
@@ -68,9 +69,11 @@ expression (Binary' op kind p left q right) = binary op kind (expression left) (
 expression (Convert' from to p of) = convert from to (expression of)
 expression (Choose' p test q chosen r other) = choose (expression test) (expression chosen) (expression other)
 
+-- a spot
 abbrev pub location : Spot → Location
 location to = record { first = to.first; len = to.len; index = expression to.index }
 
+-- an instruction
 abbrev pub instruction : Instr → Instruction
 instruction (Set to value) = sets (location to) (expression value)
 instruction (Input to) = takes (location to)
@@ -78,17 +81,26 @@ instruction (Assume test) = assumes (expression test)
 instruction (Check test kind line) = checks (expression test) kind line
 instruction (Skip test by) = skips (expression test) by
 
+-- an instruction with its mark
 abbrev pub marked : Marked → MarkedInstruction
 marked m = record { instr = instruction m.instr; visible = m.visible }
 
+-- a flat program
 abbrev pub flat_program : Flat → FlatProgram
 flat_program flat = record { threads = map (λ code. map marked code) flat.threads; first = flat.first }
 
+-- an instruction under a guard
 abbrev pub statement : Guarded → Statement
 statement g = record { guard = expression g.guard; instr = instruction g.instr }
 
+-- a straight program
 abbrev pub straight_program : Straight → StraightProgram
 straight_program straight = record { list = map statement straight.list; first = straight.first }
+
+-- how many instructions threads have together
+abbrev pub instructions : List (List MarkedInstruction) → ℕ
+instructions [] = 0
+instructions (code ∷ rest) = length code + instructions rest
 
 -- the code of a thread, which is empty where there is no such thread
 abbrev pub code_of : FlatProgram → ℕ → List MarkedInstruction

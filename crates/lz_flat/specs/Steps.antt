@@ -18,6 +18,7 @@ Performs i input before after (performed.Broke kind line) = (did i input before 
 
 -- ---- how many instructions a step runs
 
+-- what follows an instruction, as a count
 abbrev pub count_behind : Did → (ℕ → List ℕ → ℕ) → ℕ
 count_behind (moved over memory) next = next over memory
 count_behind blocked next = 0
@@ -31,6 +32,7 @@ onward_count input l (first ∷ rest) (suc over) memory = onward_count input (su
 onward_count input l (first ∷ rest) zero memory =
     if first.visible then 0 else suc (count_behind (did first.instr (input l) memory) (onward_count input (suc l) rest))
 
+-- the instructions of a step whose first one stands first in this code, at this place
 abbrev pub count_from : (ℕ → ℕ) → ℕ → List MarkedInstruction → List ℕ → ℕ
 count_from input place [] memory = 0
 count_from input place (first ∷ rest) memory =

@@ -12,6 +12,7 @@ pub data Fate : Type 0 where
   stops : Fate
   fails : Fate
 
+-- what follows a statement
 abbrev pub fate_behind : Did → (List ℕ → Fate) → Fate
 fate_behind (moved over memory) next = next memory
 fate_behind blocked next = stops

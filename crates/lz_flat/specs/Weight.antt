@@ -1,6 +1,6 @@
 -- Inner: the weight of flat and straight programs, a sum of numbers from one table. A number bounds the
 -- variables that its operator, its statement or its instruction takes in the formula.
-use Rattle.std.specs.Prelude.{ℕ, ◌+◌, ◌*◌, ◌/◌, nat_le, Bool, true, false, List, [], ◌∷◌, length, if◌then◌else◌}
+use Rattle.std.specs.Prelude.{ℕ, ◌+◌, ◌*◌, ◌/◌, nat_le, Bool, true, false, List, [], ◌∷◌, if◌then◌else◌}
 use Rattle.lz_base.specs.declared.operator.Unary.{Unary}
 use Rattle.lz_base.specs.declared.operator.Unary.TheVariants.{Plus, Minus, Invert, Not}
 use Rattle.lz_base.specs.declared.operator.Binary.{Binary}
@@ -9,28 +9,34 @@ use Rattle.lz_flat.specs.Programs.{Expression, constant, word, element, unary, b
 
 -- ---- the table
 
--- a constant, or a word of the memory; a word of the input; a conversion; a choice
+-- a constant
 abbrev pub constant_number : ℕ
 constant_number = 2
 
+-- a word of the memory
 abbrev pub word_number : ℕ
 word_number = 2
 
+-- an input
 abbrev pub input_number : ℕ
 input_number = 34
 
+-- a conversion
 abbrev pub convert_number : ℕ
 convert_number = 1
 
+-- a choice
 abbrev pub choose_number : ℕ
 choose_number = 33
 
+-- a unary operator
 abbrev pub unary_number : Unary → ℕ
 unary_number Plus = 1
 unary_number Minus = 96
 unary_number Invert = 1
 unary_number Not = 1
 
+-- a binary operator
 abbrev pub binary_number : Binary → ℕ
 binary_number Mul = 4096
 binary_number Div = 4640
@@ -60,41 +66,49 @@ long_index_number len = 68 + 35 * ((len + 31) / 32 + 32)
 abbrev pub element_number : ℕ → ℕ
 element_number len = if nat_le len 32 then 70 * len + 2 else long_index_number len + 38 * len + 2
 
--- a write of one of so many words, by an index; it counts with the number of its statement or instruction, and is 0
--- where there is no word
+-- a write of one of so many words, by an index
 abbrev pub write_number : ℕ → ℕ
-write_number len = if nat_le len 32 then 73 * len else long_index_number len + 41 * len
+write_number len = if nat_le len 32 then 73 * len + 1 else long_index_number len + 41 * len + 1
 
 -- a write of a fixed word
 abbrev pub fixed_number : ℕ
 fixed_number = 35
 
--- statements, but for where they write to
+-- Statements, but for where they write to.
+-- a statement that sets a word
 abbrev pub set_number : ℕ
 set_number = 4
 
+-- one that takes an input
 abbrev pub take_number : ℕ
 take_number = 39
 
+-- an assumption
 abbrev pub assume_number : ℕ
 assume_number = 11
 
+-- a check
 abbrev pub check_number : ℕ
 check_number = 14
 
--- instructions of flat programs, but for where they write to: each stands for three statements
+-- Instructions of flat programs, but for where they write to: each stands for three statements.
+-- an instruction that sets a word
 abbrev pub set_instruction : ℕ
 set_instruction = 131
 
+-- one that takes an input
 abbrev pub take_instruction : ℕ
 take_instruction = 166
 
+-- an assumption
 abbrev pub assume_instruction : ℕ
 assume_instruction = 138
 
+-- a check
 abbrev pub check_instruction : ℕ
 check_instruction = 141
 
+-- a skip
 abbrev pub skip_instruction : ℕ
 skip_instruction = 175
 
@@ -108,6 +122,7 @@ thread_number = 440
 
 -- ---- weights
 
+-- the weight of an expression
 abbrev pub expression_weight : Expression → ℕ
 expression_weight (constant v) = constant_number
 expression_weight (word place) = word_number
@@ -128,6 +143,7 @@ location_number len (binary op kind left right) = write_number len
 location_number len (convert from to of) = write_number len
 location_number len (choose test chosen other) = write_number len
 
+-- the weight of where an instruction writes to
 abbrev pub location_weight : Location → ℕ
 location_weight to = location_number to.len to.index + expression_weight to.index
 
@@ -147,14 +163,17 @@ statement_number (assumes test) = assume_number
 statement_number (checks test kind line) = check_number
 statement_number (skips test by) = 1
 
+-- the weight of a statement
 abbrev pub statement_weight : Statement → ℕ
 statement_weight statement =
     expression_weight statement.guard + statement_number statement.instr + parts_weight statement.instr
 
+-- the weight of statements
 abbrev pub list_weight : List Statement → ℕ
 list_weight [] = 0
 list_weight (first ∷ rest) = statement_weight first + list_weight rest
 
+-- the weight of a straight program
 abbrev pub straight_weight : StraightProgram → ℕ
 straight_weight straight = list_weight straight.list
 
@@ -166,26 +185,25 @@ instruction_number (assumes test) = assume_instruction
 instruction_number (checks test kind line) = check_instruction
 instruction_number (skips test by) = skip_instruction
 
+-- what a mark weighs
 abbrev pub mark_number : Bool → ℕ
 mark_number true = visible_number
 mark_number false = 0
 
+-- the weight of code
 abbrev pub code_weight : List MarkedInstruction → ℕ
 code_weight [] = 0
 code_weight (first ∷ rest) =
     instruction_number first.instr + mark_number first.visible + parts_weight first.instr + code_weight rest
 
+-- the weight of threads
 abbrev pub threads_weight : List (List MarkedInstruction) → ℕ
 threads_weight [] = 0
 threads_weight (code ∷ rest) = thread_number + code_weight code + threads_weight rest
 
+-- the weight of a flat program
 abbrev pub flat_weight : FlatProgram → ℕ
 flat_weight flat = threads_weight flat.threads
-
--- how many instructions there are
-abbrev pub instructions : List (List MarkedInstruction) → ℕ
-instructions [] = 0
-instructions (code ∷ rest) = length code + instructions rest
 
 -- the greatest weight of a program that is sequentialized or turned into nodes
 abbrev pub most_weight : ℕ

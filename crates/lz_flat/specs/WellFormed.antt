@@ -22,9 +22,11 @@ IsExpressionOf n (binary op kind left right) = IsExpressionOf n left × IsExpres
 IsExpressionOf n (convert from to of) = IsExpressionOf n of
 IsExpressionOf n (choose test chosen other) = IsExpressionOf n test × IsExpressionOf n chosen × IsExpressionOf n other
 
+-- so with a location
 abbrev pub IsLocationOf : ℕ → Location → Type 0
 IsLocationOf n to = AreWithin n to.first to.len × IsExpressionOf n to.index
 
+-- so with an instruction
 abbrev pub IsInstructionOf : ℕ → Instruction → Type 0
 IsInstructionOf n (sets to of) = IsLocationOf n to × IsExpressionOf n of
 IsInstructionOf n (takes to) = IsLocationOf n to
@@ -50,6 +52,7 @@ IsForward left (assumes test) = ⊤
 IsForward left (checks test kind line) = ⊤
 IsForward left (skips test by) = (1 ≤ by) × (by ≤ left)
 
+-- the code of a thread names words of n alone, its assumptions are visible, and its skips go forward
 abbrev pub IsCodeOf : ℕ → List MarkedInstruction → Type 0
 IsCodeOf n [] = ⊤
 IsCodeOf n (first ∷ rest) =
@@ -69,6 +72,7 @@ pub record IsWellMarked (flat : FlatProgram) : Type 0 where
 
 -- ---- straight programs
 
+-- an instruction of a straight program
 abbrev pub IsNoSkip : Instruction → Type 0
 IsNoSkip (sets to of) = ⊤
 IsNoSkip (takes to) = ⊤
@@ -76,6 +80,7 @@ IsNoSkip (assumes test) = ⊤
 IsNoSkip (checks test kind line) = ⊤
 IsNoSkip (skips test by) = ⊥
 
+-- a statement that names words of n alone, and is no skip
 abbrev pub IsStatementOf : ℕ → Statement → Type 0
 IsStatementOf n statement =
     IsExpressionOf n statement.guard × IsInstructionOf n statement.instr × IsNoSkip statement.instr

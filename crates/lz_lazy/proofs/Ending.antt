@@ -1,17 +1,18 @@
 -- What holds of the encoding holds of the program made, and its lists are short since it is light.
-use Rattle.std.proofs.Common.{◌≡◌, ℕ, ◌^◌, replicate, ◌++◌, zero, suc, ◌+◌, ◌*◌, ◌≤◌, ◌<◌, All, List, [], ◌∷◌, length, map, get_or, refl, sym, ◌∙◌, ap, subst, arith}
+use Rattle.std.proofs.Common.{◌≡◌, ℕ, zero, suc, ◌+◌, ◌*◌, ◌≤◌, ◌<◌, All, List, [], ◌∷◌, length, map, replicate, get_or, refl, sym, ◌∙◌, ap, subst, arith}
 use Rattle.std.specs.Prelude.{slice_index_or}
-use Rattle.std.proofs.lemmas.List.{length-append, length-replicate}
 use Rattle.std.proofs.Math.Nat.{mul-le-mul_right}
 use Rattle.lz_base.specs.Words.{value_bound}
 use Rattle.lz_flat.specs.declared.program.Marked.{Marked}
 use Rattle.lz_flat.specs.declared.program.Guarded.{Guarded}
 use Rattle.lz_flat.specs.declared.program.Flat.{Flat}
-use Rattle.lz_flat.specs.Programs.{MarkedInstruction, FlatProgram, Statement, StraightProgram, code_of, marked, statement, flat_program}
-use Rattle.lz_flat.specs.Weight.{threads_weight, flat_weight, most_weight, instructions}
+use Rattle.lz_flat.specs.Programs.{MarkedInstruction, FlatProgram, Statement, StraightProgram, code_of, marked, statement, flat_program, instructions}
+use Rattle.lz_flat.specs.Weight.{threads_weight, flat_weight, most_weight}
 use Rattle.lz_lazy.specs.Encoding.{encoding, encoded_first, sequential}
+use Rattle.std.proofs.lemmas.List.{length-append}
+use Rattle.lz_lazy.proofs.Driving.{length_zeros}
 use Rattle.lz_lazy.proofs.Sizes.{size}
-use Rattle.lz_lazy.proofs.Weighing.{code_length}
+use Rattle.lz_flat.proofs.WeightLemmas.{code_length}
 
 pub carry : (P : StraightProgram → Type 0) (flat : FlatProgram) (rounds : ℕ) (list : List Statement) (first : List ℕ) → list ≡ encoding flat rounds → first ≡ encoded_first flat
     → P (sequential flat rounds) → P (record { list = list; first = first })
@@ -67,13 +68,12 @@ short flat rounds some h thread =
     let b = light rounds (flat_weight flat) some h in
     omega (arith, a, b)
 
--- the words of the straight program, where those of the flat one and two more for each thread have room
-pub fewer_words : (flat : Flat) (first : List ℕ) (words threads most : ℕ) → first ≡ encoded_first (flat_program flat) → words ≡ length flat.first → threads ≡ length flat.threads → most ≡ 4294967295 → words + (2 + threads) ≤ most
-    → length first < 4294967296
-fewer_words flat first words threads most same lent codes limit room =
-    let rest : List ℕ = replicate (length (flat_program flat).threads) 0 in
-    let size = ap length same in
-    let whole = length-append flat.first (0 ∷ 0 ∷ rest) in
-    let more = length-replicate {A = ℕ} (length (flat_program flat).threads) 0 in
-    let each = length_threads flat.threads in
-    omega (arith, size, whole, more, each)
+-- the words of the straight program can be numbered where those of the flat one, one more for each thread and two
+-- besides, can
+pub numbered : (flat : Flat) (first : List ℕ) → first ≡ encoded_first (flat_program flat) → length flat.first + (2 + length flat.threads) < 4294967296 → length first < 4294967296
+numbered flat first is lt =
+    let a = length-append flat.first (0 ∷ 0 ∷ replicate (length (flat_program flat).threads) 0) in
+    let b = length_zeros (length (flat_program flat).threads) in
+    let c = length_threads flat.threads in
+    let e = ap length is in
+    omega (arith, a, b, c, e)

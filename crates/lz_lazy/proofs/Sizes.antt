@@ -4,9 +4,8 @@ use Rattle.std.specs.Prelude.{slice_index, slice_index_or, ◌==◌}
 use Rattle.std.proofs.lemmas.List.{length-append}
 use Rattle.lz_flat.specs.FlatRuns.{threads_from, blocks}
 use Rattle.lz_flat.specs.Instructions.{value, Did, moved, blocked, broke, did}
-use Rattle.lz_flat.specs.Programs.{MarkedInstruction, FlatProgram, code_of, Statement}
+use Rattle.lz_flat.specs.Programs.{MarkedInstruction, FlatProgram, code_of, Statement, instructions}
 use Rattle.lz_flat.specs.StraightRuns.{Fate, fate_behind, straight}
-use Rattle.lz_flat.specs.Weight.{instructions}
 use Rattle.lz_lazy.specs.Encoding.{head, encoded, encoded_blocks, encoding}
 use Rattle.lz_lazy.proofs.Driving.{length_encoded}
 

@@ -1,5 +1,5 @@
 -- The straight program weighs so many rounds times what the flat one weighs.
-use Rattle.std.proofs.Common.{◌≡◌, ℕ, zero, suc, ◌+◌, ◌*◌, ◌≤◌, Bool, true, false, List, [], ◌∷◌, ◌++◌, length, drop, refl, ap, arith}
+use Rattle.std.proofs.Common.{◌≡◌, ℕ, zero, suc, ◌+◌, ◌*◌, Bool, true, false, List, [], ◌∷◌, ◌++◌, length, drop, refl, ap, arith}
 use Rattle.lz_flat.specs.Programs.{Instruction, sets, takes, assumes, checks, skips, MarkedInstruction, FlatProgram, Statement, code_of}
 use Rattle.lz_flat.specs.FlatRuns.{threads_from, blocks}
 use Rattle.lz_flat.specs.Weight.{expression_weight, parts_weight, statement_weight, list_weight, straight_weight, instruction_number, mark_number, code_weight, thread_number, threads_weight, flat_weight}
@@ -77,22 +77,3 @@ weighs flat (suc rounds) =
     let first = round_weighs flat flat.threads 0 refl in
     let sum = blocks_both flat (threads_from 0 (length flat.threads)) (blocks rounds (length flat.threads)) in
     grind (arith, later, first, sum)
-
--- ---- lengths of lists follow from weights
-
--- code has no more instructions than it weighs
-pub code_length : (code : List MarkedInstruction) → length code ≤ code_weight code
-code_length [] = omega arith
-code_length (first ∷ rest) = let h = code_length rest in let k = instruction_positive first.instr in omega (arith, h, k)
-  where
-    instruction_positive : (i : Instruction) → 1 ≤ instruction_number i
-    instruction_positive (sets to of) = omega arith
-    instruction_positive (takes to) = omega arith
-    instruction_positive (assumes test) = omega arith
-    instruction_positive (checks test kind line) = omega arith
-    instruction_positive (skips test by) = omega arith
-
--- there are no more threads than the program weighs
-pub threads_length : (threads : List (List MarkedInstruction)) → length threads ≤ threads_weight threads
-threads_length [] = omega arith
-threads_length (code ∷ rest) = let h = threads_length rest in omega (arith, h)

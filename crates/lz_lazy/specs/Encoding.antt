@@ -14,16 +14,19 @@ whole place = record { first = place; len = 1; index = constant 0 }
 abbrev pub idle : Statement
 idle = record { guard = constant 0; instr = assumes (constant 1) }
 
+-- a statement that always runs
 abbrev pub always : Instruction → Statement
 always instr = record { guard = constant 1; instr = instr }
 
--- where the guess, the flag and the saved place of a thread stand behind n words
+-- where the guess stands behind n words
 abbrev pub guess_place : ℕ → ℕ
 guess_place n = n
 
+-- where the flag stands
 abbrev pub flag_place : ℕ → ℕ
 flag_place n = n + 1
 
+-- where the saved place of a thread stands
 abbrev pub saved_place : ℕ → ℕ → ℕ
 saved_place n thread = n + (2 + thread)
 
@@ -36,7 +39,7 @@ mask_from (suc more) mask size = mask_from more (if nat_le size mask then mask e
 unfoldable pub word_bits : ℕ
 word_bits = 32
 
--- the least number of ones in a row, in binary, that is the size or more
+-- the least number 2 ^ k - 1 that is the size or more
 abbrev pub mask_of : ℕ → ℕ
 mask_of size = mask_from word_bits 0 size
 
@@ -58,6 +61,7 @@ abbrev pub runs_next : ℕ → ℕ → ℕ → List MarkedInstruction → Expres
 runs_next n thread l [] = constant 0
 runs_next n thread l (first ∷ rest) = stands_at n thread l first.visible
 
+-- a statement that runs where the flag is set
 abbrev pub flagged : ℕ → Instruction → Statement
 flagged n instr = record { guard = word (flag_place n); instr = instr }
 
@@ -96,6 +100,7 @@ head n thread code =
     ∷ idle ∷ idle ∷ idle ∷ idle ∷ idle ∷ idle ∷ idle ∷ idle ∷ idle
     ∷ always (sets (whole (flag_place n)) (runs_next n thread 0 code)) ∷ []
 
+-- the blocks of these threads, one after the other
 unfoldable pub encoded_blocks : FlatProgram → List ℕ → List Statement
 encoded_blocks flat [] = []
 encoded_blocks flat (thread ∷ rest) =
@@ -110,5 +115,6 @@ encoding flat rounds = encoded_blocks flat (blocks rounds (length flat.threads))
 abbrev pub encoded_first : FlatProgram → List ℕ
 encoded_first flat = flat.first ++ 0 ∷ 0 ∷ replicate (length flat.threads) 0
 
+-- the straight program
 abbrev pub sequential : FlatProgram → ℕ → StraightProgram
 sequential flat rounds = record { list = encoding flat rounds; first = encoded_first flat }

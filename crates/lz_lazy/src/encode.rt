@@ -73,7 +73,7 @@ fn wider_mask(mask: u64, size: u32) -> u64
 /// How many bits a word has.
 const WORD_BITS: u32 = 32;
 
-/// The least number of ones in a row, in binary, that is the size or more.
+/// The least number 2^k - 1 that is the size or more.
 fn mask_of(size: u32) -> u64
     ensures { result ≡ spec.mask_of size }
 {

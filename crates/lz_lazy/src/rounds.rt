@@ -1,9 +1,9 @@
 ghost use Rattle.std.specs.Prelude.{◌≡◌, ◌<◌, ◌≤◌, ◌+◌, ◌*◌, ◌^◌, length, map, All, OnOk, IfOk, ◌++◌};
-ghost use Rattle.lz_flat.specs.Programs.{statement, flat_program, straight_program};
+ghost use Rattle.lz_flat.specs.Programs.{statement, flat_program, straight_program, instructions};
 ghost use Rattle.lz_flat.specs.FlatRuns.{threads_from};
 ghost use Rattle.lz_flat.specs.WellFormed.{IsWellMarked, IsWellFormed};
 ghost use Rattle.lz_flat.specs.Lengths.{FlatHasLengths, StraightHasLengths};
-ghost use Rattle.lz_flat.specs.Weight.{instructions, flat_weight, straight_weight, most_weight};
+ghost use Rattle.lz_flat.specs.Weight.{flat_weight, straight_weight, most_weight};
 ghost use Rattle.lz_lazy.specs.Encoding as spec;
 ghost use Rattle.lz_lazy.specs.Sequential.{FailsAsDriven, FailsWhereBroken};
 
@@ -55,7 +55,7 @@ fn statements(alloc: Global, flat: &Flat, rounds: u32) -> Result<GuardedList, Me
 }
 
 /// The straight program of a flat program for so many rounds. It has a word more for each thread and two
-/// besides: where they have no room below 2^32 it answers want of memory. Linear in what it answers.
+/// besides: where they can't be numbered below 2^32 it answers want of memory.
 pub fn sequentialize(alloc: Global, flat: &Flat, rounds: u32) -> Result<Straight, Memory>
     requires marked { IsWellMarked (flat_program flat.now) }
     requires words { length flat.now.first < 2 ^ 32 }
@@ -65,10 +65,10 @@ pub fn sequentialize(alloc: Global, flat: &Flat, rounds: u32) -> Result<Straight
     ensures driven { IfOk result (λ made. FailsAsDriven (flat_program flat.now) rounds (straight_program made)) }
     ensures broken { IfOk result (λ made. FailsWhereBroken (flat_program flat.now) rounds (straight_program made)) }
 
+    ensures words { IfOk result (λ made. length made.first < 2 ^ 32) }
     ensures size { IfOk result (λ made. length made.list ≡ 3 * rounds * (instructions (flat_program flat.now).threads + 4 * length flat.now.threads)) }
     ensures weight { IfOk result (λ made. straight_weight (straight_program made) ≤ rounds * flat_weight (flat_program flat.now)) }
     ensures formed { IfOk result (λ made. IsWellFormed (straight_program made)) }
-    ensures words { IfOk result (λ made. length made.first < 2 ^ 32) }
     ensures lengths { FlatHasLengths (flat_program flat.now) → IfOk result (λ made. StraightHasLengths (straight_program made)) }
 {
     let words = flat.first.items().len() as u64 + (2 + flat.threads.items().len() as u64);

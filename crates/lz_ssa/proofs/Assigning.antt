@@ -9,7 +9,7 @@ use Rattle.lz_flat.specs.Programs.{Expression, Instruction, sets, takes, assumes
 use Rattle.lz_flat.specs.Instructions.{did}
 use Rattle.lz_flat.specs.StraightRuns.{Fate, still, fails, straight}
 use Rattle.lz_flat.specs.WellFormed.{IsWord, IsExpressionOf, IsInstructionOf, IsStatementOf, IsWellFormed}
-use Rattle.lz_flat.specs.Weight.{expression_weight, location_weight, statement_number, statement_weight, list_weight, straight_weight}
+use Rattle.lz_flat.specs.Weight.{expression_weight, location_weight, statement_weight, list_weight, straight_weight}
 use Rattle.lz_ssa.specs.declared.node.Node.TheVariants as nodes
 use Rattle.lz_ssa.specs.declared.draft.Held.{Held}
 use Rattle.lz_ssa.specs.declared.draft.Held.TheVariants.{First}
@@ -210,18 +210,6 @@ nodes_weigh program formed short some =
     let begin_weighs = b.weighs in
     let w = f.weighs in
     omega (arith, begin_weighs, w)
-
--- there are no more statements than the program weighs
-pub list_length : (list : List Statement) → length list ≤ list_weight list
-list_length [] = omega arith
-list_length (s ∷ rest) = let h = list_length rest in let k = positive s.instr in omega (arith, h, k)
-  where
-    positive : (i : Instruction) → 1 ≤ statement_number i
-    positive (sets to of) = omega arith
-    positive (takes to) = omega arith
-    positive (assumes test) = omega arith
-    positive (checks test kind line) = omega arith
-    positive (skips test by) = omega arith
 
 -- ---- the code
 

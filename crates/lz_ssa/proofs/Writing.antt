@@ -133,7 +133,7 @@ write_from_gives inputs d so_far decoder first len place (suc more) guard writte
 write_weighs : (len : ℕ) → decode_weight len + len * (test_weight len + 38) ≤ write_number len
 write_weighs len = by_length (nat_le len 32)
   where
-    by_length : (b : Bool) → cond b 0 (long_index_number len) + len * (cond b 35 3 + 38) ≤ cond b (73 * len) (long_index_number len + 41 * len)
+    by_length : (b : Bool) → cond b 0 (long_index_number len) + len * (cond b 35 3 + 38) ≤ cond b (73 * len + 1) (long_index_number len + 41 * len + 1)
     by_length true = omega arith
     by_length false = omega arith
 

@@ -1,4 +1,4 @@
--- Trusted: what the nodes of a straight program decide.
+-- Inner: what the nodes of a straight program decide.
 use Rattle.std.specs.Prelude.{ℕ, List, slice_index, ◌↔◌}
 use Rattle.lz_flat.specs.Programs.{StraightProgram}
 use Rattle.lz_flat.specs.StraightRuns.{FailsOn, IsInputList}

@@ -1,4 +1,4 @@
--- Trusted: the words of nodes, on inputs, and when nodes are well formed.
+-- Inner: the words of nodes, on inputs, and when nodes are well formed.
 use Rattle.std.specs.Prelude.{◌≢◌, ℕ, suc, ◌<◌, ◌==◌, List, [], ◌∷◌, ◌++◌, length, slice_index, if◌then◌else◌, ⊤}
 use Rattle.lz_base.specs.Words.{value_bound, unary_value, binary_value, converted}
 use Rattle.lz_ssa.specs.declared.node.Node.{Node}

@@ -28,7 +28,7 @@ fn add_statements(alloc: Global, building: &mut Building, list: &[Guarded]) -> R
     Ok(())
 }
 
-/// The nodes of a straight program: static single assignment. Linear in the weight of the program.
+/// The nodes of a straight program: static single assignment.
 pub fn nodes(alloc: Global, straight: &Straight) -> Result<Nodes, Memory>
     requires formed { IsWellFormed (straight_program straight.now) }
     requires words { length straight.now.first < 2 ^ 32 }

@@ -1,4 +1,4 @@
-use Rattle.std.proofs.Common.{ap, length, arith, ◌≤◌, ◌*◌}
+use Rattle.std.proofs.Common.{arith, ap, length, ◌≤◌, ◌*◌}
 use Rattle.lz_flat.specs.Programs.{flat_program}
 use Rattle.lz_flat.specs.WellFormed.{IsWellFormed}
 use Rattle.lz_flat.specs.Lengths.{StraightHasLengths}
@@ -8,7 +8,7 @@ use Rattle.lz_lazy.proofs.Whole.{fails_as_driven, fails_where_broken}
 use Rattle.lz_lazy.proofs.Forming.{well_formed}
 use Rattle.lz_lazy.proofs.Weighing.{weighs}
 use Rattle.lz_lazy.proofs.Measuring.{has_lengths}
-use Rattle.lz_lazy.proofs.Ending.{carry, sized, all_short, short, fewer_words}
+use Rattle.lz_lazy.proofs.Ending.{carry, sized, all_short, short, numbered}
 use Rattle.lz_lazy.proofs.rounds.sequentialize.Goals as goal
 
 pub statements-requires-clause-places : goal.statements-requires-clause-places
@@ -49,4 +49,6 @@ returns-clause-lengths c =
 
 pub returns-clause-words : goal.returns-clause-words
 returns-clause-words c =
-    fewer_words c.args.flat.now _ _ _ _ c.in_ok-first.ensures (ap length c.items.ensures) (ap length c.items-2.ensures) c.from.ensures c.if-words-from.false
+    let a = ap length c.items.ensures in
+    let b = ap length c.items-2.ensures in
+    numbered c.args.flat.now c.in_ok-first.first c.in_ok-first.ensures (omega (arith, a, b))
