@@ -1,5 +1,5 @@
 -- Words of fresh literals, and rooms for the circuits of all operators.
-use Rattle.std.proofs.Common.{◌≡◌, ℕ, ◌+◌, ◌*◌, ◌<◌, ◌≤◌, List, [], ◌∷◌, ◌++◌, length, ap, ◌∙◌, refl, arith}
+use Rattle.std.proofs.Common.{◌≡◌, ℕ, ◌+◌, ◌*◌, ◌≤◌, List, [], ◌∷◌, ◌++◌, ap, ◌∙◌, refl, arith}
 use Rattle.std.proofs.lemmas.List.{length_push}
 use Rattle.std.proofs.lemmas.List.Elements.{All-push}
 use Rattle.lz_base.specs.declared.operator.Binary.{Binary}
@@ -36,6 +36,10 @@ freshens_more start now next bits lit i h e more = record {
   where
     by : (n i : ℕ) → n + i + 1 ≡ n + (i + 1)
     by n i = omega arith
+
+-- a word stays one of the circuit
+pub bits_still : (old new : Circuit) (n : ℕ) (bits : List Lit) → AreBits old n bits → old.variables ≤ new.variables → AreBits new n bits
+bits_still old new n bits h le = record { length = h.length; lits = are_lits_more old new bits le h.lits }
 
 -- no binary operator adds more variables than a division
 pub binary_variables_most : (op : Binary) → binary_variables op ≤ 4610

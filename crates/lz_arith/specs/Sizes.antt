@@ -1,5 +1,5 @@
 -- Inner: how many variables and clauses the circuit of each operator adds at most.
-use Rattle.std.specs.Prelude.{ℕ, ◌*◌}
+use Rattle.std.specs.Prelude.{ℕ, ◌+◌, ◌*◌}
 use Rattle.lz_base.specs.declared.operator.Unary.{Unary}
 use Rattle.lz_base.specs.declared.operator.Unary.TheVariants.{Plus, Minus, Invert, Not}
 use Rattle.lz_base.specs.declared.operator.Binary.{Binary}
@@ -10,18 +10,21 @@ use Rattle.lz_base.specs.declared.word.IntType.{IntType}
 abbrev pub width : IntType → ℕ
 width t = 32
 
+-- of a unary operator
 abbrev pub unary_variables : Unary → ℕ
 unary_variables Plus = 0
 unary_variables Minus = 96
 unary_variables Invert = 0
 unary_variables Not = 1
 
+-- its clauses
 abbrev pub unary_clauses : Unary → ℕ
 unary_clauses Plus = 0
 unary_clauses Minus = 448
 unary_clauses Invert = 0
 unary_clauses Not = 33
 
+-- of a binary operator
 abbrev pub binary_variables : Binary → ℕ
 binary_variables Mul = 4096
 binary_variables Div = 4610
@@ -42,6 +45,7 @@ binary_variables BitOr = 32
 binary_variables Both = 3
 binary_variables Either = 3
 
+-- its clauses
 abbrev pub binary_clauses : Binary → ℕ
 binary_clauses Mul = 17408
 binary_clauses Div = 22981
@@ -62,9 +66,18 @@ binary_clauses BitOr = 128
 binary_clauses Both = 69
 binary_clauses Either = 69
 
+-- of the truth test of a word of so many bits
+abbrev pub test_variables : ℕ
+test_variables = 1
+
+-- its clauses
+abbrev pub test_clauses : ℕ → ℕ
+test_clauses width = width + 1
+
 -- of a choice between words of so many bits
 abbrev pub choice_variables : ℕ → ℕ
 choice_variables width = width
 
+-- its clauses
 abbrev pub choice_clauses : ℕ → ℕ
 choice_clauses width = 6 * width

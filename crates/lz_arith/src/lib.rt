@@ -13,7 +13,7 @@ mod product;
 mod shift;
 
 pub use lists::Bits;
-pub use operators::{binary_bits, choose_bits, convert_bits, unary_bits};
+pub use operators::{binary_bits, choose_bits, convert_bits, truth_bit, unary_bits};
 
 #[cfg(test)]
 mod tests;

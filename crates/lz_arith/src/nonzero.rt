@@ -2,7 +2,7 @@
 ghost use Rattle.std.specs.Prelude.{◌≡◌, ◌∷◌, ℕ, ◌+◌, ◌*◌, ◌<◌, ◌≤◌, IfOk, OnOk, length, not, nat_eq, ◌==◌, ◌++◌, [], if◌then◌else◌};
 ghost use Rattle.lz_gates.specs.Circuits.{Assignment, value, IsLit, AreLits, Makes};
 ghost use Rattle.lz_arith.specs.Bits.{word};
-ghost use Rattle.lz_arith.specs.Open.{IsOpen};
+ghost use Rattle.lz_arith.specs.Open.{KeepsTest};
 
 use crate::lists::{Bits, one_before, repeated};
 use lz_base::Memory;
@@ -23,7 +23,7 @@ fn push_open(kept: &mut Bits, off: Lit, lit: Lit) -> Result<(), Memory>
 
 /// The literals that a truth test depends on: none that is false, and the true one alone where it is among them.
 fn open_literals(alloc: Global, on: Lit, off: Lit, bits: &[Lit]) -> Result<Bits, Memory>
-    ensures { IfOk result (IsOpen on off bits.now) }
+    ensures { IfOk result (KeepsTest on off bits.now) }
 {
     let mut kept = Bits::new(alloc);
     for i in 0..bits.len() {

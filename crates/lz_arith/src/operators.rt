@@ -4,7 +4,7 @@ ghost use Rattle.lz_cnf.specs.Models.{negated};
 ghost use Rattle.lz_base.specs.Words.{truth, is_true, signed, unary_value, binary_value, converted};
 ghost use Rattle.lz_gates.specs.Circuits.{Assignment, Satisfies, value, IsLit, AreLits, Makes};
 ghost use Rattle.lz_arith.specs.Bits.{word, AreBits, is_negative};
-ghost use Rattle.lz_arith.specs.Sizes.{width, unary_variables, unary_clauses, binary_variables, binary_clauses, choice_variables, choice_clauses};
+ghost use Rattle.lz_arith.specs.Sizes.{width, unary_variables, unary_clauses, binary_variables, binary_clauses, choice_variables, choice_clauses, test_variables, test_clauses};
 
 use crate::add::{add_words, minus_word, subtract_words};
 use crate::bitwise::{Bitwise, bitwise_words, or_gate};
@@ -232,8 +232,8 @@ fn right_shift_word(
         (λ a. word a r ≡ binary_value Binary.Shr (word a left.now) (word a right.now) t)) }
 {
     let fill = fill_of(builder, t, left);
-    let amount = &right[..5];
-    let bits = shift_down(alloc, builder, fill, left, amount)?;
+    let places = &right[..5];
+    let bits = shift_down(alloc, builder, fill, left, places)?;
     Ok(bits)
 }
 
@@ -377,4 +377,25 @@ pub fn choose_bits(
     }
     let outcome = choose_words(alloc, builder, test, yes.items(), no.items());
     settled(builder, outcome)
+}
+
+/// The literal that says whether a word is not 0.
+pub fn truth_bit(alloc: Global, builder: &mut Builder, a: &Bits) -> Result<Lit, Memory>
+    requires bits { AreLits builder.old a.now }
+    requires room { builder.old.variables + test_variables < 2147483648 }
+    ensures lit { IfOk result (IsLit builder.new) }
+    ensures made { IfOk result (λ lit. Makes builder.old builder.new test_variables (test_clauses (length a.now)) (λ m. value m lit ≡ is_true (word m a.now))) }
+    ensures err { OnErr result (builder.new.spent ≡ true) }
+    ensures stays_spent { builder.old.spent ≡ true → IsErr result }
+{
+    if builder.is_spent() {
+        return Err(Memory);
+    }
+    match truth_test(alloc, builder, a.items()) {
+        Ok(lit) => Ok(lit),
+        Err(error) => {
+            builder.give_up();
+            Err(error)
+        }
+    }
 }

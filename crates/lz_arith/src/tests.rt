@@ -3,30 +3,31 @@ ghost use Rattle.lz_gates.specs.Circuits.{IsLit};
 ghost use Rattle.lz_arith.specs.Bits.{AreBits};
 
 use super::*;
-use lz_base::{Binary, IntType, Unary};
+use lz_base::{Binary, IntType, Memory, Unary};
 use lz_gates::Builder;
 use std::alloc::Global;
 use std::test::Fail;
 
 /// A word of fresh literals.
-fn fresh_word(alloc: Global, builder: &mut Builder) -> Result<Bits, Fail>
+fn fresh_word(alloc: Global, builder: &mut Builder) -> Result<Bits, Memory>
     requires room { builder.old.variables + 32 < 2147483648 }
     ensures bits { IfOk result (AreBits builder.new 32) }
     ensures more { OnOk result (builder.new.variables ≡ builder.old.variables + 32) }
 {
     let mut bits = Bits::new(alloc);
-    for _i in 0..32 {
-        let lit = builder.fresh().ok().ok_or("memory")?;
-        bits.push(lit).ok().ok_or("memory")?;
+    for _i in 0..32_usize {
+        let lit = builder.fresh()?;
+        bits.push(lit)?;
     }
     Ok(bits)
 }
 
 /// How many literals a binary operator answers over fresh ones.
+#[tactic(auto, using(crate::proofs::FreshLemmas::binary_variables_most, crate::proofs::FreshLemmas::bits_still))]
 fn binary_length(alloc: Global, op: Binary, t: IntType) -> Result<usize, Fail> {
     let mut builder = Builder::new(alloc).ok().ok_or("memory")?;
-    let a = fresh_word(alloc, &mut builder)?;
-    let b = fresh_word(alloc, &mut builder)?;
+    let a = fresh_word(alloc, &mut builder).ok().ok_or("memory")?;
+    let b = fresh_word(alloc, &mut builder).ok().ok_or("memory")?;
     let bits = binary_bits(alloc, &mut builder, op, t, &a, &b)
         .ok()
         .ok_or("memory")?;
@@ -34,9 +35,10 @@ fn binary_length(alloc: Global, op: Binary, t: IntType) -> Result<usize, Fail> {
 }
 
 /// How many literals a unary operator answers over fresh ones.
+#[tactic(auto, using(crate::proofs::FreshLemmas::unary_variables_most))]
 fn unary_length(alloc: Global, op: Unary, t: IntType) -> Result<usize, Fail> {
     let mut builder = Builder::new(alloc).ok().ok_or("memory")?;
-    let a = fresh_word(alloc, &mut builder)?;
+    let a = fresh_word(alloc, &mut builder).ok().ok_or("memory")?;
     let bits = unary_bits(alloc, &mut builder, op, t, &a)
         .ok()
         .ok_or("memory")?;
@@ -101,10 +103,11 @@ fn unary_operators_answer_words(rt: HostRuntime) -> Result<(), Fail> {
 
 /// A conversion answers the word itself, and a choice by a constant one of the words.
 #[test]
+#[tactic(auto, using(crate::proofs::FreshLemmas::bits_still))]
 fn conversions_and_choices_answer_words(rt: HostRuntime) -> Result<(), Fail> {
     let mut builder = Builder::new(rt.alloc()).ok().ok_or("memory")?;
-    let a = fresh_word(rt.alloc(), &mut builder)?;
-    let b = fresh_word(rt.alloc(), &mut builder)?;
+    let a = fresh_word(rt.alloc(), &mut builder).ok().ok_or("memory")?;
+    let b = fresh_word(rt.alloc(), &mut builder).ok().ok_or("memory")?;
     let same = convert_bits(
         rt.alloc(),
         &mut builder,
@@ -120,5 +123,10 @@ fn conversions_and_choices_answer_words(rt: HostRuntime) -> Result<(), Fail> {
         .ok()
         .ok_or("memory")?;
     assert_eq!(rt; chosen.items(), b.items());
+    let truth = truth_bit(rt.alloc(), &mut builder, &a)
+        .ok()
+        .ok_or("memory")?;
+    let before = a.items();
+    assert!(rt; before.len() == 32 && truth.0 > before[31].0);
     Ok(())
 }

@@ -17,3 +17,6 @@ pub mod UnaryLemmas
 pub mod LevelsLemmas
 pub mod ConditionalLemmas
 pub mod HeightsLemmas
+pub mod LoopsLemmas
+pub mod ClimbingLemmas
+pub mod FrontsLemmas

@@ -42,9 +42,16 @@ cast_types t u = (may_cast_to t ≡ true) × SpellsType t u
 abbrev pub pointer_text : TypeName → List Token → Type 0
 pointer_text = along (showing (key_shown keys.Void)) (λ v. made (λ s. types.VoidPointer) (showing (mark_shown marks.Star)))
 
+pointer_still : (k : TokenKind) → grow_by types.VoidPointer k ≡ None
+pointer_still (kinds.Keyword w) = refl
+pointer_still (kinds.Punct m) = refl
+pointer_still (kinds.Name n) = refl
+pointer_still (kinds.Constant v f) = refl
+pointer_still kinds.Text = refl
+
 pointer_goes : (c : Token) → type_goes types.VoidPointer c ≡ false
 unfolding grow
-pointer_goes c = refl
+pointer_goes c = ap shows (pointer_still c.kind)
 
 star_row : Row (made (λ s. types.VoidPointer) (showing (mark_shown marks.Star))) (mark marks.Star >>= (λ s. pure types.VoidPointer)) type_goes
 star_row = row_last (showing (mark_shown marks.Star)) (mark marks.Star) (λ _ _. false) (λ s. types.VoidPointer) type_goes (row_one (mark_shown marks.Star) (the_mark marks.Star) _ (the_mark_shows marks.Star)) (λ x u c m. pointer_goes c)

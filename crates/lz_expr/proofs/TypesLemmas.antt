@@ -13,7 +13,7 @@ use Rattle.lz_tree.specs.declared.expression.TypeName.TheVariants as types
 use Rattle.lz_tree.specs.Languages.{mark_in}
 use Rattle.lz_tree.specs.Spelling.{type_kinds, kinds_of, SpellsType}
 use Rattle.lz_expr.specs.Reading.{shows, ◌>>=◌, token, grown}
-use Rattle.lz_expr.specs.Grammar.{integer_key, key_in, key_meant, signed_by, unsigned_by, with_int, with_long, starred, grow_by, grow, integer_type}
+use Rattle.lz_expr.specs.Grammar.{integer_key, key_in, key_meant, signed_by, unsigned_by, with_int, with_long, starred, grow_integer, grow_pointer, grow_by, grow, integer_type}
 use Rattle.lz_expr.proofs.RowsLemmas.{Row}
 use Rattle.lz_expr.proofs.GrowLemmas.{Started, Larger, row_grown}
 use Rattle.lz_expr.proofs.TokensLemmas.{the_key, the_kind}
@@ -86,34 +86,30 @@ star_table : (w : Punct) (r : TypeName) → starred w ≡ Some r → GrowsTo typ
 star_table marks.Star r h = to types.Void (kinds.Punct marks.Star) types.VoidPointer r (record { words = refl; integer = refl; falls = omega arith }) h
 star_table _ r h = absurd cc
 
-by_key : (t : TypeName) (f : Keyword → Option TypeName) → ((w : Keyword) (r : TypeName) → f w ≡ Some r → GrowsTo t (kinds.Keyword w) r) → (k : TokenKind) (r : TypeName) → key_in f k ≡ Some r → GrowsTo t k r
-by_key t f g (kinds.Keyword w) r h = g w r h
-by_key t f g (kinds.Name number) r h = absurd cc
-by_key t f g (kinds.Constant value form) r h = absurd cc
-by_key t f g kinds.Text r h = absurd cc
-by_key t f g (kinds.Punct mark) r h = absurd cc
+-- the tables of types that grow
+integer_table : (t : TypeName) (w : Keyword) (r : TypeName) → grow_integer t w ≡ Some r → GrowsTo t (kinds.Keyword w) r
+integer_table types.Signed w r h = signed_table w r h
+integer_table types.Unsigned w r h = unsigned_table w r h
+integer_table types.Short w r h = int_table types.Short types.ShortInt (record { words = refl; integer = refl; falls = omega arith }) w r h
+integer_table types.UnsignedShort w r h = int_table types.UnsignedShort types.UnsignedShortInt (record { words = refl; integer = refl; falls = omega arith }) w r h
+integer_table types.LongLong w r h = int_table types.LongLong types.LongLongInt (record { words = refl; integer = refl; falls = omega arith }) w r h
+integer_table types.UnsignedLongLong w r h = int_table types.UnsignedLongLong types.UnsignedLongLongInt (record { words = refl; integer = refl; falls = omega arith }) w r h
+integer_table types.Long w r h =
+    long_table types.Long types.LongLong types.LongInt (record { words = refl; integer = refl; falls = omega arith }) (record { words = refl; integer = refl; falls = omega arith }) w r h
+integer_table types.UnsignedLong w r h =
+    long_table types.UnsignedLong types.UnsignedLongLong types.UnsignedLongInt (record { words = refl; integer = refl; falls = omega arith }) (record { words = refl; integer = refl; falls = omega arith }) w r h
+integer_table _ w r h = absurd cc
 
-by_mark : (t : TypeName) (f : Punct → Option TypeName) → ((w : Punct) (r : TypeName) → f w ≡ Some r → GrowsTo t (kinds.Punct w) r) → (k : TokenKind) (r : TypeName) → mark_in f k ≡ Some r → GrowsTo t k r
-by_mark t f g (kinds.Punct w) r h = g w r h
-by_mark t f g (kinds.Name number) r h = absurd cc
-by_mark t f g (kinds.Constant value form) r h = absurd cc
-by_mark t f g kinds.Text r h = absurd cc
-by_mark t f g (kinds.Keyword word) r h = absurd cc
+pointer_table : (t : TypeName) (m : Punct) (r : TypeName) → grow_pointer t m ≡ Some r → GrowsTo t (kinds.Punct m) r
+pointer_table types.Void m r h = star_table m r h
+pointer_table _ m r h = absurd cc
 
--- the table of types that grow
 grow_table : (t : TypeName) (k : TokenKind) (r : TypeName) → grow_by t k ≡ Some r → GrowsTo t k r
-grow_table types.Signed k r h = by_key types.Signed signed_by signed_table k r h
-grow_table types.Unsigned k r h = by_key types.Unsigned unsigned_by unsigned_table k r h
-grow_table types.Short k r h = by_key types.Short (with_int types.ShortInt) (int_table types.Short types.ShortInt (record { words = refl; integer = refl; falls = omega arith })) k r h
-grow_table types.UnsignedShort k r h = by_key types.UnsignedShort (with_int types.UnsignedShortInt) (int_table types.UnsignedShort types.UnsignedShortInt (record { words = refl; integer = refl; falls = omega arith })) k r h
-grow_table types.LongLong k r h = by_key types.LongLong (with_int types.LongLongInt) (int_table types.LongLong types.LongLongInt (record { words = refl; integer = refl; falls = omega arith })) k r h
-grow_table types.UnsignedLongLong k r h = by_key types.UnsignedLongLong (with_int types.UnsignedLongLongInt) (int_table types.UnsignedLongLong types.UnsignedLongLongInt (record { words = refl; integer = refl; falls = omega arith })) k r h
-grow_table types.Long k r h =
-    by_key types.Long (with_long types.LongLong types.LongInt) (long_table types.Long types.LongLong types.LongInt (record { words = refl; integer = refl; falls = omega arith }) (record { words = refl; integer = refl; falls = omega arith })) k r h
-grow_table types.UnsignedLong k r h =
-    by_key types.UnsignedLong (with_long types.UnsignedLongLong types.UnsignedLongInt) (long_table types.UnsignedLong types.UnsignedLongLong types.UnsignedLongInt (record { words = refl; integer = refl; falls = omega arith }) (record { words = refl; integer = refl; falls = omega arith })) k r h
-grow_table types.Void k r h = by_mark types.Void starred star_table k r h
-grow_table _ k r h = absurd cc
+grow_table t (kinds.Keyword w) r h = integer_table t w r h
+grow_table t (kinds.Punct m) r h = pointer_table t m r h
+grow_table t (kinds.Name number) r h = absurd cc
+grow_table t (kinds.Constant value form) r h = absurd cc
+grow_table t kinds.Text r h = absurd cc
 
 -- ---- the words of a type, but for the last
 

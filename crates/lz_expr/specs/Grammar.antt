@@ -11,11 +11,12 @@ use Rattle.lz_tree.specs.declared.token.Punct.{Punct}
 use Rattle.lz_tree.specs.declared.token.Punct.TheVariants as marks
 use Rattle.lz_base.specs.declared.operator.Binary.{Binary}
 use Rattle.lz_base.specs.declared.operator.Unary.{Unary}
+use Rattle.lz_tree.specs.declared.expression.Target.{Target}
 use Rattle.lz_tree.specs.declared.expression.TypeName.{TypeName}
 use Rattle.lz_tree.specs.declared.expression.TypeName.TheVariants as types
 use Rattle.lz_tree.specs.Languages.{is_mark, is_key, mark_shown, key_shown, name_shown, meant_by, mark_in, line_at, same_key}
 use Rattle.lz_tree.specs.Spelling.{sign_of, operator_of, assigning_of, step_of}
-use Rattle.lz_tree.specs.Trees.{Expression, constant, null, text, object, address, paren, unary, cast, binary, choose, assign, step, call, whole, element, Expressions, expressions_of}
+use Rattle.lz_tree.specs.Trees.{Expression, constant, null, text, object, address, paren, unary, cast, binary, choose, assign, step, call, whole, element, Expressions, expressions_of, index_of}
 use Rattle.lz_tree.specs.Height.{expression_height}
 use Rattle.lz_tree.specs.WellFormed.{looseness}
 use Rattle.lz_expr.specs.declared.refusal.Refusal.{Refusal}
@@ -162,18 +163,30 @@ abbrev pub starred : Punct → Option TypeName
 starred marks.Star = Some types.VoidPointer
 starred _ = None
 
+-- the integer type that an integer type and one more word make
+abbrev pub grow_integer : TypeName → Keyword → Option TypeName
+grow_integer types.Signed w = signed_by w
+grow_integer types.Unsigned w = unsigned_by w
+grow_integer types.Short w = with_int types.ShortInt w
+grow_integer types.UnsignedShort w = with_int types.UnsignedShortInt w
+grow_integer types.Long w = with_long types.LongLong types.LongInt w
+grow_integer types.UnsignedLong w = with_long types.UnsignedLongLong types.UnsignedLongInt w
+grow_integer types.LongLong w = with_int types.LongLongInt w
+grow_integer types.UnsignedLongLong w = with_int types.UnsignedLongLongInt w
+grow_integer t w = None
+
+-- the type that a type and one more punctuator make
+abbrev pub grow_pointer : TypeName → Punct → Option TypeName
+grow_pointer types.Void m = starred m
+grow_pointer t m = None
+
 -- the type that a type and one more token make
 abbrev pub grow_by : TypeName → TokenKind → Option TypeName
-grow_by types.Signed k = key_in signed_by k
-grow_by types.Unsigned k = key_in unsigned_by k
-grow_by types.Short k = key_in (with_int types.ShortInt) k
-grow_by types.UnsignedShort k = key_in (with_int types.UnsignedShortInt) k
-grow_by types.Long k = key_in (with_long types.LongLong types.LongInt) k
-grow_by types.UnsignedLong k = key_in (with_long types.UnsignedLongLong types.UnsignedLongInt) k
-grow_by types.LongLong k = key_in (with_int types.LongLongInt) k
-grow_by types.UnsignedLongLong k = key_in (with_int types.UnsignedLongLongInt) k
-grow_by types.Void k = mark_in starred k
-grow_by t k = None
+grow_by t (kinds.Keyword w) = grow_integer t w
+grow_by t (kinds.Punct m) = grow_pointer t m
+grow_by t (kinds.Name number) = None
+grow_by t (kinds.Constant value form) = None
+grow_by t kinds.Text = None
 
 unfoldable pub grow : TypeName → Token → Option TypeName
 grow t c = grow_by t c.kind
@@ -384,3 +397,11 @@ Fails Memory o = Unit {0}
 abbrev pub Reads : {X Y : Type 0} → (X → Y × List Token) → Result X Refusal → Outcome Token Y → Type 0
 Reads view (Ok x) o = o ≡ gives (view x).0 (view x).1
 Reads view (Err e) o = Fails e o
+
+-- the object that a target is
+abbrev pub object_of : Target → Expression
+object_of t = object t.line t.name (index_of t.index)
+
+-- an argument may come next
+abbrev pub begins_argument : ℕ → Token → Bool
+begins_argument h c = nat_lt 0 h && not (is_mark marks.CloseParen c)

@@ -1,6 +1,9 @@
 -- How each call keeps the freedom of the fresh variables.
 use Rattle.std.proofs.Common.{◌≡◌, ℕ, zero, suc, ◌+◌, ◌<◌, ◌≤◌, Bool, true, false, ◌||◌, cond, eqb, get_or, List, [], ◌∷◌, ◌++◌, refl, sym, ◌∙◌, ap, subst, arith}
 use Rattle.std.proofs.lemmas.Bool.Decides.{nat_tests}
+use Rattle.std.specs.List.{All, Contains}
+use Rattle.std.proofs.lemmas.List.{get_or_default}
+use Rattle.std.proofs.lemmas.List.Elements.{All-append, Contains-append_left, Contains-append_right}
 use Rattle.lz_cnf.specs.declared.clause.Lit.{Lit}
 use Rattle.lz_cnf.specs.Models.{variable_of}
 use Rattle.lz_gates.specs.Circuits.{Circuit, Assignment, Satisfies, Agree, AreBelow, Extends, first_clauses, value, clause_value}
@@ -32,9 +35,10 @@ agree_one : (n m : ℕ) (a b : Assignment) → m ≡ n + 1 → Agree n a b → a
 unfolding Agree
 agree_one n m a b e h here x lt = grind arith
 
-pub free_fresh : (old new : Circuit) (fresh : List ℕ) (gates : List (List Lit)) → IsFree old fresh gates → new.variables ≡ old.variables + 1 → IsFree new (old.variables ∷ fresh) gates
+pub free_fresh : (old new : Circuit) (fresh : List ℕ) (gates : List (List Lit)) → IsFree old fresh gates → new.variables ≡ old.variables + 1 → new.clauses ≡ old.clauses → IsFree new (old.variables ∷ fresh) gates
 unfolding AreVariables AgreeOn
-free_fresh old new fresh gates h more = record {
+free_fresh old new fresh gates h more same_clauses = record {
+  kept = subst (λ (cs : List (List Lit)). All (Contains cs) gates) (sym same_clauses) h.kept;
   fresh_in = (omega arith, variables_more old new fresh (omega arith) h.fresh_in);
   below = below_more old.variables new.variables gates (omega arith) h.below;
   some = λ v.
@@ -51,6 +55,10 @@ free_fresh old new fresh gates h more = record {
 
 pub free_gate : (old new : Circuit) (fresh : List ℕ) (gates : List (List Lit)) (e : Extends old new) → IsFree old fresh gates → IsFree new fresh (gates ++ e.added)
 free_gate old new fresh gates e h = record {
+  kept = subst (λ (cs : List (List Lit)). All (Contains cs) (gates ++ e.added)) (sym e.clauses)
+      (All-append (Contains (old.clauses ++ e.added)) gates e.added
+      (λ k d lt. Contains-append_left old.clauses e.added (get_or gates k d) (h.kept k d lt))
+      (λ k d lt. Contains-append_right old.clauses e.added (get_or e.added k d) (k, lt, get_or_default e.added k (get_or e.added k d) d lt)));
   fresh_in = variables_more old new fresh e.more h.fresh_in;
   below = below_append new.variables gates e.added (below_more old.variables new.variables gates e.more h.below) e.below;
   some = λ v.
@@ -61,8 +69,9 @@ free_gate old new fresh gates e h = record {
       e.once a b (h.once a b on (satisfies_front a gates e.added s) (satisfies_front b gates e.added t)) (satisfies_back a gates e.added s) (satisfies_back b gates e.added t);
 }
 
-pub free_require : (old new : Circuit) (fresh : List ℕ) (gates : List (List Lit)) → IsFree old fresh gates → new.variables ≡ old.variables → IsFree new fresh gates
-free_require old new fresh gates h same = record {
+pub free_require : (old new : Circuit) (fresh : List ℕ) (gates : List (List Lit)) (clause : List Lit) → IsFree old fresh gates → new.variables ≡ old.variables → new.clauses ≡ old.clauses ++ clause ∷ [] → IsFree new fresh gates
+free_require old new fresh gates clause h same more = record {
+  kept = subst (λ (cs : List (List Lit)). All (Contains cs) gates) (sym more) (λ k d lt. Contains-append_left old.clauses (clause ∷ []) (get_or gates k d) (h.kept k d lt));
   fresh_in = variables_more old new fresh (omega arith) h.fresh_in;
   below = subst (λ (n : ℕ). AreBelow n gates) (sym same) h.below;
   some = h.some;
@@ -78,9 +87,10 @@ true_or true h = refl
 true_or false h = h
 
 -- a new builder has no fresh variable, and its clause settles variable 0
-pub free_start : (start : Circuit) → start.variables ≡ 1 → IsFree start [] first_clauses
+pub free_start : (start : Circuit) → start.variables ≡ 1 → start.clauses ≡ first_clauses → IsFree start [] first_clauses
 unfolding AreVariables AgreeOn AreBelow Satisfies clause_value Agree
-free_start start one = record {
+free_start start one first = record {
+  kept = subst (λ (cs : List (List Lit)). All (Contains cs) first_clauses) (sym first) (λ k d lt. (k, lt, get_or_default first_clauses k (get_or first_clauses k d) d lt));
   fresh_in = tt;
   below = (record { some = omega arith; lits = first_below }, tt);
   some = λ v. ((λ x. true), (true_or _ (value-positive (λ x. true) (record { 0 = 0 }) 0 refl), tt), tt);

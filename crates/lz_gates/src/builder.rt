@@ -47,6 +47,7 @@ impl Builder {
         ensures lit { IfOk result (λ lit. lit.0 ≡ 2 * self.old.variables) }
         ensures variables { OnOk result (self.new.variables ≡ self.old.variables + 1) }
         ensures clauses { OnOk result (self.new.clauses ≡ self.old.clauses) }
+        ensures working { OnOk result (self.new.spent ≡ false) }
         ensures err { OnErr result (self.new.spent ≡ true) }
         ensures stays_spent { self.old.spent ≡ true → IsErr result }
     {
@@ -62,9 +63,9 @@ impl Builder {
     pub fn require(&mut self, clause: &[Lit]) -> Result<(), Memory>
         requires some { 0 < length clause.now }
         requires lits { AreLits self.old clause.now }
-        ensures working { OnOk result (self.new.spent ≡ false) }
         ensures variables { OnOk result (self.new.variables ≡ self.old.variables) }
         ensures clauses { OnOk result (self.new.clauses ≡ self.old.clauses ++ clause.now ∷ []) }
+        ensures working { OnOk result (self.new.spent ≡ false) }
         ensures err { OnErr result (self.new.spent ≡ true) }
         ensures stays_spent { self.old.spent ≡ true → IsErr result }
     {
@@ -90,6 +91,7 @@ impl Builder {
         ensures more { OnOk result (self.old.variables ≤ self.new.variables) }
         ensures most { OnOk result (self.new.variables ≤ self.old.variables + 1) }
         ensures made { IfOk result (λ lit. Makes self.old self.new 1 3 (λ a. value a lit ≡ (value a left && value a right))) }
+        ensures working { OnOk result (self.new.spent ≡ false) }
         ensures err { OnErr result (self.new.spent ≡ true) }
         ensures stays_spent { self.old.spent ≡ true → IsErr result }
     {
@@ -110,6 +112,7 @@ impl Builder {
         ensures more { OnOk result (self.old.variables ≤ self.new.variables) }
         ensures most { OnOk result (self.new.variables ≤ self.old.variables + 1) }
         ensures made { IfOk result (λ lit. Makes self.old self.new 1 3 (λ a. value a lit ≡ (value a left && value a right))) }
+        ensures working { OnOk result (self.new.spent ≡ false) }
         ensures err { OnErr result (self.new.spent ≡ true) }
         ensures stays_spent { self.old.spent ≡ true → IsErr result }
     {
@@ -132,6 +135,7 @@ impl Builder {
         ensures more { OnOk result (self.old.variables ≤ self.new.variables) }
         ensures most { OnOk result (self.new.variables ≤ self.old.variables + 1) }
         ensures made { IfOk result (λ lit. Makes self.old self.new 1 4 (λ a. value a lit ≡ xor (value a left) (value a right))) }
+        ensures working { OnOk result (self.new.spent ≡ false) }
         ensures err { OnErr result (self.new.spent ≡ true) }
         ensures stays_spent { self.old.spent ≡ true → IsErr result }
     {
@@ -153,6 +157,7 @@ impl Builder {
         ensures more { OnOk result (self.old.variables ≤ self.new.variables) }
         ensures most { OnOk result (self.new.variables ≤ self.old.variables + 1) }
         ensures made { IfOk result (λ lit. Makes self.old self.new 1 4 (λ a. value a lit ≡ xor (value a left) (value a right))) }
+        ensures working { OnOk result (self.new.spent ≡ false) }
         ensures err { OnErr result (self.new.spent ≡ true) }
         ensures stays_spent { self.old.spent ≡ true → IsErr result }
     {
@@ -176,6 +181,7 @@ impl Builder {
         ensures more { OnOk result (self.old.variables ≤ self.new.variables) }
         ensures most { OnOk result (self.new.variables ≤ self.old.variables + 1) }
         ensures made { IfOk result (λ lit. Makes self.old self.new 1 6 (λ a. value a lit ≡ choice (value a test) (value a yes) (value a no))) }
+        ensures working { OnOk result (self.new.spent ≡ false) }
         ensures err { OnErr result (self.new.spent ≡ true) }
         ensures stays_spent { self.old.spent ≡ true → IsErr result }
     {
@@ -200,6 +206,7 @@ impl Builder {
         ensures more { OnOk result (self.old.variables ≤ self.new.variables) }
         ensures most { OnOk result (self.new.variables ≤ self.old.variables + 1) }
         ensures made { IfOk result (λ lit. Makes self.old self.new 1 6 (λ a. value a lit ≡ choice (value a test) (value a yes) (value a no))) }
+        ensures working { OnOk result (self.new.spent ≡ false) }
         ensures err { OnErr result (self.new.spent ≡ true) }
         ensures stays_spent { self.old.spent ≡ true → IsErr result }
     {

@@ -11,10 +11,12 @@ ghost use Rattle.lz_gates.specs.Values.{assigned, listed};
 /// A new builder, a gate, a fresh variable and a required clause each keep that any values of the fresh variables
 /// settle the gates.
 pub fn fresh_values_settle_gates()
-    ensures start { (start : Circuit) → start.variables ≡ 1 → IsFree start [] first_clauses }
+    ensures start { (start : Circuit) → start.variables ≡ 1 → start.clauses ≡ first_clauses → IsFree start [] first_clauses }
     ensures gate { (old new : Circuit) (fresh : List ℕ) (gates : List (List Lit)) (e : Extends old new) → IsFree old fresh gates → IsFree new fresh (gates ++ e.added) }
-    ensures fresh { (old new : Circuit) (fresh : List ℕ) (gates : List (List Lit)) → IsFree old fresh gates → new.variables ≡ old.variables + 1 → IsFree new (old.variables ∷ fresh) gates }
-    ensures required { (old new : Circuit) (fresh : List ℕ) (gates : List (List Lit)) → IsFree old fresh gates → new.variables ≡ old.variables → IsFree new fresh gates }
+    ensures fresh { (old new : Circuit) (fresh : List ℕ) (gates : List (List Lit)) → IsFree old fresh gates → new.variables ≡ old.variables + 1 → new.clauses ≡ old.clauses
+        → IsFree new (old.variables ∷ fresh) gates }
+    ensures required { (old new : Circuit) (fresh : List ℕ) (gates : List (List Lit)) (clause : List Lit) → IsFree old fresh gates → new.variables ≡ old.variables
+        → new.clauses ≡ old.clauses ++ clause ∷ [] → IsFree new fresh gates }
 {}
 
 /// Each model before a call extends in exactly one way to one after it.

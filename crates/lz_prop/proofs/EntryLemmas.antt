@@ -1,13 +1,13 @@
 -- Entries of one variable are one, and there are no more entries than variables.
-use Rattle.std.proofs.Common.{◌≡◌, ◌≢◌, ℕ, zero, suc, ◌<◌, ◌≤◌, inl, inr, ⊎_elim, true, false, eqb, List, [], ◌∷◌, length, get_or, map, refl, sym, ◌∙◌, ap, arith}
+use Rattle.std.proofs.Common.{◌≡◌, ◌≢◌, ℕ, zero, suc, Option, Some, ◌<◌, ◌≤◌, inl, inr, ⊎_elim, Bool, true, false, cond, eqb, List, [], ◌∷◌, length, get_or, map, refl, sym, ◌∙◌, ap, subst, arith}
 use Rattle.std.specs.List.{All, AllPairs, Contains, list_any}
-use Rattle.std.proofs.lemmas.Bool.{cases_order, eqb-true, ne_eqb, or_cases}
+use Rattle.std.proofs.lemmas.Bool.{cases_order, eqb-true, eqb-false, ne_eqb, or_cases}
 use Rattle.std.proofs.lemmas.List.{length-map}
 use Rattle.std.proofs.lemmas.List.Elements.{Contains-get_or}
 use Rattle.std.proofs.lemmas.Map.Keys.{IsDistinct-from_apart}
 use Rattle.std.proofs.lemmas.Map.Steps.{length-le_from_distinct_below}
 use Rattle.lz_cnf.specs.Models.{variable_of, negated}
-use Rattle.lz_prop.specs.Trail.{Entry, TrailState, IsTrail, literals}
+use Rattle.lz_prop.specs.Trail.{Entry, TrailState, IsTrail, literals, entry_of}
 use Rattle.lz_cnf.specs.Partial.{IsConsistent}
 use Rattle.lz_prop.proofs.LitLemmas.{variable_of-negated, ne_negated, Contains-from_map}
 
@@ -67,3 +67,23 @@ entries_fit set n known apart =
     let bound = length-le_from_distinct_below (map f set) n distinct (λ q h. any_below f set n q known h) in
     let same : length (map f set) ≡ length set = length-map set f in
     omega arith
+
+-- ---- the entry of a variable
+
+found_at : (first : Entry) (set : List Entry) (e : Entry) (b : Bool) → eqb (variable_of first.lit) (variable_of e.lit) ≡ b → (b ≡ true → first ≡ e) → (b ≡ false → entry_of set (variable_of e.lit) ≡ Some e)
+    → cond b (Some first) (entry_of set (variable_of e.lit)) ≡ Some e
+found_at first set e true same one rest = ap (λ (x : Entry). Some x) (one refl)
+found_at first set e false same one rest = rest refl
+
+entry_found : (set : List Entry) (e : Entry) → Contains set e → ((x : Entry) → Contains set x → variable_of x.lit ≡ variable_of e.lit → x ≡ e) → entry_of set (variable_of e.lit) ≡ Some e
+entry_found [] e has one = absurd (omega (arith, has.1))
+entry_found (x ∷ xs) e (zero, lt, at) one =
+    found_at x xs e (eqb (variable_of x.lit) (variable_of e.lit)) refl (λ _. at) (λ off. absurd (eqb-false (variable_of x.lit) (variable_of e.lit) off (ap (λ (y : Entry). variable_of y.lit) at)))
+entry_found (x ∷ xs) e (suc k, lt, at) one =
+    found_at x xs e (eqb (variable_of x.lit) (variable_of e.lit)) refl
+    (λ on. one x (0, omega arith, refl) (eqb-true (variable_of x.lit) (variable_of e.lit) on))
+    (λ _. entry_found xs e (k, omega arith, at) (λ y (j, below, h) same. one y (suc j, omega arith, h) same))
+
+-- an entry of the trail is the entry of its variable
+pub entry_held : (s : TrailState) (e : Entry) → IsTrail s → Contains s.set e → entry_of s.set (variable_of e.lit) ≡ Some e
+entry_held s e trail has = entry_found s.set e has (λ x h same. one_entry s trail x e h has same)

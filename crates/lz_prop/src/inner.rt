@@ -9,7 +9,7 @@ ghost use Rattle.lz_prop.specs.Kept.{IsKept, state_of};
 ghost use Rattle.lz_prop.specs.Standing.{Stands};
 ghost use Rattle.lz_prop.specs.Further.{IsFurther, IsLooked, IsLookedThrough, IsVisited, IsHandled, IsPropagated};
 
-use crate::status::{Status, opposite, status_of};
+use crate::status::{Status, status_of};
 use crate::store::Store;
 use crate::table::Table;
 use lz_base::Memory;
@@ -188,7 +188,7 @@ impl Inner {
         ensures seen { self.new.seen ≡ self.old.seen }
         ensures outcome { IsVisited self.new result }
     {
-        let lit = opposite(self.table.order[self.head]);
+        let lit = self.table.order[self.head].negated();
         self.walk(lit)
     }
 

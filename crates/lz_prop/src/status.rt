@@ -16,17 +16,6 @@ pub enum Status {
     AllFalse,
 }
 
-/// The literal of the same variable in the other sign.
-pub fn opposite(lit: Lit) -> Lit
-    ensures { result ≡ negated lit }
-{
-    if lit.0 % 2 == 1 {
-        Lit(lit.0 - 1)
-    } else {
-        Lit(lit.0 + 1)
-    }
-}
-
 /// How a clause stands by the table of true literals.
 pub fn status_of(clause: &[Lit], truths: &[u8]) -> Status
     requires { All (λ lit. (lit.0 < length truths.now) × ((negated lit).0 < length truths.now)) clause.now }
@@ -37,7 +26,7 @@ pub fn status_of(clause: &[Lit], truths: &[u8]) -> Status
         if truths[lit.0 as usize] == 1 {
             return Status::Open;
         }
-        if truths[opposite(*lit).0 as usize] != 1 {
+        if truths[lit.negated().0 as usize] != 1 {
             if let Some(first) = left {
                 if first.0 != lit.0 {
                     return Status::Open;

@@ -44,7 +44,9 @@ impl Trail {
     pub fn new(alloc: Global, formula: &Cnf) -> Result<Trail, Memory>
         requires formula { IsFormula formula.now }
         requires not_empty { All (λ c. c ≢ []) formula.now.clauses }
-        ensures { IfOk result (λ t. t ≡ opening formula.now) }
+        ensures opening { IfOk result (λ t. t ≡ opening formula.now) }
+        ensures trail { IfOk result (λ t. IsTrail t) }
+        ensures few { IfOk result (λ t. t.variables ≤ 2147483648) }
     {
         let inner = Inner::new(alloc, formula)?;
         Ok(Trail { inner })

@@ -1,0 +1,5 @@
+pub mod Learnt
+pub mod Walks
+pub mod Walking
+pub mod Highest
+pub mod LearntFrom

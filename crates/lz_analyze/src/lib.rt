@@ -1,0 +1,7 @@
+//! Learning from a conflict: the clause at the first unique implication point, with its hints.
+#![tactic(auto)]
+
+mod analysis;
+mod walk;
+
+pub use analysis::{Learnt, learn};
