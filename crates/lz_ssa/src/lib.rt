@@ -15,3 +15,6 @@ mod write;
 pub use evaluate::eval;
 pub use make::nodes;
 pub use node::{Node, NodeList, Nodes};
+
+#[cfg(test)]
+mod tests;
