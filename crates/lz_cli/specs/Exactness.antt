@@ -1,5 +1,5 @@
 -- Inner: which endings are left where the folder tells the named file and no read failed.
--- With the cases of a lawful ending, each ending but want of memory comes exactly where its cause stands.
+-- With the cases of a lawful ending: there one ending is lawful beside want of memory.
 use Rattle.std.specs.Prelude.{◌≡◌, ℕ, List, ⊤}
 use Rattle.lz_outside.specs.Faults.{Rose}
 use Rattle.lz_outside.specs.Files.{Tells}

@@ -1,4 +1,5 @@
-//! Each ending but want of memory comes exactly where its cause stands.
+//! Which endings are lawful where the folder tells the named file and no read of it failed, where the told files lack
+//! it, and where no file is named.
 
 ghost use Rattle.std.specs.Prelude.{ℕ, ◌<◌, ◌≤◌, List, length};
 ghost use Rattle.lz_outside.specs.Files.{Lacks};

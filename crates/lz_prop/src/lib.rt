@@ -8,3 +8,6 @@ mod table;
 mod trail;
 
 pub use trail::{Propagated, Trail};
+
+#[cfg(test)]
+mod tests;

@@ -1,0 +1,3 @@
+pub mod Solving
+pub mod Search
+pub mod Turns
