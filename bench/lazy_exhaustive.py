@@ -1,6 +1,6 @@
 #!/usr/bin/env python3
 """Compares flat programs with their straight programs by brute force, and shows that wrong encodings are refused.
-Run it from the top of the repository: bench/lazy_exhaustive.py [SEED [PROGRAMS [PROGRAMS FOR EACH WRONG ENCODING]]]
+Run it from the top of the repository: bench/lazy_exhaustive.py [SEED [PROGRAMS [PROGRAMS FOR A WRONG ENCODING]]]
 
 For random flat programs of one to three threads with few instructions over small words, and for each of one, two and
 three rounds:
@@ -901,29 +901,30 @@ def agreement(seed, programs):
 
 
 def refused(seed, programs):
-    """Compares so many programs with each wrong encoding; whether each is refused as it must be."""
-    flats, choose, well = [], random.Random(seed), True
-    for _ in range(programs):
-        flat = some_flat(choose)
-        flats.append((flat, least_rounds(flat)[0]))
-    names = ("lists", "runs", "length", "weight")
-    print(f"{len(WRONG)} wrong encodings: of {programs} programs, how many refuse each by " + ", ".join(names))
+    """Compares at most so many programs with each wrong encoding, up to the first that refuses it as it must be
+    refused; whether there is one for each."""
+    flats, choose, well = [], random.Random(seed), 0
+    print(f"{len(WRONG)} wrong encodings, each with the first program that refuses it, and what disagrees there:")
     for encoding in WRONG:
-        count, listed = Counter(), random.Random(seed)
-        for flat, least in flats:
+        listed, found, number = random.Random(seed), [], 0
+        while encoding.refused_by not in [name for name, _, _ in found] and number < programs:
+            if number == len(flats):
+                flat = some_flat(choose)
+                flats.append((flat, least_rounds(flat)[0]))
             found = []
-            compare(listed, flat, least, encoding, found, Counter())
-            count.update({name for name, _, _ in found})
-        good = count[encoding.refused_by] > 0
-        well = well and good
-        numbers = " ".join(f"{count[name]:5}" for name in names)
-        print(f"  {numbers}  {encoding.name}{'' if good else ': NOT REFUSED by ' + encoding.refused_by}", flush=True)
-    return well
+            compare(listed, *flats[number], encoding, found, Counter())
+            number += 1
+        good = encoding.refused_by in [name for name, _, _ in found]
+        well += good
+        at = f"program {number:3} by " + ", ".join(sorted({name for name, _, _ in found})) if good else "NOT REFUSED"
+        print(f"  {encoding.name}: {at}", flush=True)
+    print(f"{well} of {len(WRONG)} wrong encodings are refused")
+    return well == len(WRONG)
 
 
 def main():
     given = [int(each) for each in sys.argv[1:]]
-    seed, programs, wrong = given + [1, 1000, 60][len(given) :]
+    seed, programs, wrong = given + [1, 500, 200][len(given) :]
     agrees = agreement(seed, programs)
     sys.stdout.flush()
     sys.exit(0 if (wrong == 0 or refused(seed, wrong)) and agrees else 1)
