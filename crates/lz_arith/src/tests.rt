@@ -123,6 +123,14 @@ fn conversions_and_choices_answer_words(rt: HostRuntime) -> Result<(), Fail> {
         .ok()
         .ok_or("memory")?;
     assert_eq!(rt; chosen.items(), b.items());
+    Ok(())
+}
+
+/// A truth test of fresh literals answers a literal behind them.
+#[test]
+fn truth_tests_answer_a_new_literal(rt: HostRuntime) -> Result<(), Fail> {
+    let mut builder = Builder::new(rt.alloc()).ok().ok_or("memory")?;
+    let a = fresh_word(rt.alloc(), &mut builder).ok().ok_or("memory")?;
     let truth = truth_bit(rt.alloc(), &mut builder, &a)
         .ok()
         .ok_or("memory")?;

@@ -4,3 +4,6 @@
 mod search;
 
 pub use search::{Solved, solve};
+
+#[cfg(test)]
+mod tests;

@@ -35,6 +35,7 @@ pub record Ready (inputs n : ℕ) (p : Progress) : Type 0 where
   pub alive : p.alive < length p.drawn.list
   pub failed : p.failed < length p.drawn.list
 
+-- an instruction under its guard leads from one progress to the next
 instruction_stated : (inputs n i : ℕ) (guard : Expression) (instr : Instruction) (p : Progress) → Ready inputs n p → n ≤ 4294967296 → IsStatementOf n (record { guard = guard; instr = instr }) → i < inputs
     → StatedBy inputs p (instruction_made i instr p.alive p.failed (expression_node guard p.drawn)) i (record { guard = guard; instr = instr })
 unfolding instruction_made did
@@ -101,6 +102,7 @@ instruction_stated inputs n i guard (checks test kind line) p ready short is lt 
     }
 instruction_stated inputs n i guard (skips test by) p ready short is lt = absurd is.2
 
+-- so does a statement
 statement_stated : (inputs n i : ℕ) (s : Statement) (p : Progress) → Ready inputs n p → n ≤ 4294967296 → IsStatementOf n s → i < inputs → StatedBy inputs p (statement_made i s p) i s
 unfolding statement_made
 statement_stated inputs n i s p ready short is lt = instruction_stated inputs n i s.guard s.instr p ready short is lt
@@ -115,6 +117,7 @@ pub record Finished (inputs n : ℕ) (p q : Progress) (i : ℕ) (list : List Sta
       → Left (word_at input p.drawn p.alive) (word_at input p.drawn p.failed) (memory_of input p.drawn) input i list whole
       → Left (word_at input q.drawn q.alive) (word_at input q.drawn q.failed) (memory_of input q.drawn) input (i + length list) [] whole
 
+-- and so do statements, one after the other
 pub statements_finish : (inputs n i : ℕ) (list : List Statement) (p : Progress) → Ready inputs n p → n ≤ 4294967296 → AllByRecursion (IsStatementOf n) list → i + length list ≡ inputs → Finished inputs n p (statements_made i list p) i list
 unfolding statements_made
 statements_finish inputs n i [] p ready short is all = record {
@@ -137,14 +140,17 @@ statements_finish inputs n i (s ∷ rest) p ready short is all =
 
 -- ---- the beginning
 
+-- first values are words
 first_held : (n : ℕ) (first : List ℕ) → AllByRecursion IsWord first → AllByRecursion (IsHeldOf n) (map (λ v. First v) first)
 first_held n [] all = tt
 first_held n (v ∷ rest) all = (all.0, first_held n rest all.1)
 
+-- first values stand for themselves
 first_memory : (words first : List ℕ) → map (held_word words) (map (λ v. First v) first) ≡ first
 first_memory words [] = refl
 first_memory words (v ∷ rest) = ap (λ (t : List ℕ). v ∷ t) (first_memory words rest)
 
+-- there are as many held words as first values
 first_length : (first : List ℕ) → length {A = Held} (map (λ v. First v) first) ≡ length first
 first_length [] = refl
 first_length (v ∷ rest) = ap suc (first_length rest)
@@ -155,6 +161,7 @@ pub record Begun (inputs : ℕ) (first : List ℕ) : Type 0 where
   pub weighs : nodes_weight (begin first).drawn.list ≡ 4
   pub left : (input : ℕ → ℕ) (list : List Statement) → Left (word_at input (begin first).drawn (begin first).alive) (word_at input (begin first).drawn (begin first).failed) (memory_of input (begin first).drawn) input 0 list (straight input 0 list first)
 
+-- the beginning is ready, weighs 4, and goes on with the first values
 pub begun : (inputs : ℕ) (first : List ℕ) → AllByRecursion IsWord first → Begun inputs first
 unfolding begin memory_of AreNodesFrom values_from
 begun inputs first all = record {
@@ -170,18 +177,21 @@ begun inputs first all = record {
 
 -- ---- the whole program
 
+-- each input of a list is a word, as is what stands behind it
 input_words : (inputs : List ℕ) → AllByRecursion (λ v. v < value_bound) inputs → AreWords (slice_index inputs)
 input_words [] all zero = omega arith
 input_words [] all (suc k) = omega arith
 input_words (x ∷ xs) all zero = all.0
 input_words (x ∷ xs) all (suc k) = input_words xs all.1 k
 
+-- where no statement is left, the second node tells whether the program failed
 at_end : (a f : ℕ) (m : List ℕ) (input : ℕ → ℕ) (i : ℕ) (whole : Fate) → Left a f m input i [] whole → (f ≢ 0) ↔ (whole ≡ fails)
 unfolding straight
 at_end a f m input i whole (lost nonzero is) = ((λ h. is), λ h. nonzero)
 at_end a f m input i whole (dead zero_ alive not_) = ((λ h. absurd (h zero_)), λ h. absurd (not_ h))
 at_end a f m input i whole (goes zero_ alive is) = ((λ h. absurd (h zero_)), λ h. let both : still m ≡ fails = is ∙ h in absurd cc)
 
+-- the whole construction
 finished : (program : StraightProgram) → IsWellFormed program → length program.first ≤ 4294967296 → Finished (length program.list) (length program.first) (begin program.first) (constructed program) 0 program.list
 finished program formed short =
     let b = begun (length program.list) program.first formed.words in
@@ -222,6 +232,7 @@ begun_words first p e = ap (λ (x : Progress). length x.drawn.words) e ∙ first
 pub made_is : (list : List Statement) (first : List ℕ) (p q : Progress) → p ≡ begin first → q ≡ statements_made 0 list p → q ≡ constructed (record { list = list; first = first })
 made_is list first p q e f = f ∙ ap (statements_made 0 list) e
 
+-- the view of a list is as long
 pub length_statements : (list : List Guarded) → length (map statement list) ≡ length list
 length_statements [] = refl
 length_statements (x ∷ xs) = ap suc (length_statements xs)
@@ -232,11 +243,13 @@ pub made_fails : (program : StraightProgram) (count : ℕ) (q : Progress) → q 
 made_fails program count q e formed short =
     subst (λ (p : Progress). FailsAsStraight program (record { list = p.drawn.list; inputs = count; fails = p.failed })) (sym e) (fails_as_straight program count formed short)
 
+-- what was made is well formed
 pub made_formed : (program : StraightProgram) (count : ℕ) (q : Progress) → q ≡ constructed program → IsWellFormed program → length program.first ≤ 4294967296 → count ≡ length program.list
     → AreWellFormed (record { list = q.drawn.list; inputs = count; fails = q.failed })
 made_formed program count q e formed short k =
     subst (λ (p : Progress). AreWellFormed (record { list = p.drawn.list; inputs = count; fails = p.failed })) (sym e)
     (subst (λ (n : ℕ). AreWellFormed (record { list = (constructed program).drawn.list; inputs = n; fails = (constructed program).failed })) (sym k) (nodes_formed program formed short))
 
+-- what was made weighs no more than the program
 pub made_weighs : (program : StraightProgram) (q : Progress) → q ≡ constructed program → IsWellFormed program → length program.first ≤ 4294967296 → 1 ≤ length program.list → nodes_weight q.drawn.list ≤ straight_weight program
 made_weighs program q e formed short some = let h = nodes_weigh program formed short some in let k = ap (λ (p : Progress). nodes_weight p.drawn.list) e in omega (arith, h, k)

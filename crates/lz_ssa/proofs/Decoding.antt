@@ -23,9 +23,11 @@ pub record Means (inputs : ℕ) (drawn : Drawn) (node : ℕ) (word : (ℕ → �
   pub within : node < length drawn.list
   pub is : (input : ℕ → ℕ) → AreWords input → word_at input drawn node ≡ word input
 
+-- what a node that was made means
 pub means_of : (inputs : ℕ) (d : Drawn) (m : With) (f : (ℕ → ℕ) → ℕ) (w : ℕ) → Gives inputs d m f w → Means inputs m.drawn m.node f
 means_of inputs d m f w gives = record { within = gives.within; is = gives.means }
 
+-- a node means the same in a draft that grew
 pub means_grows : (inputs : ℕ) (d e : Drawn) (node : ℕ) (f : (ℕ → ℕ) → ℕ) (w : ℕ) → Means inputs d node f → Grows inputs d e w → Means inputs e node f
 means_grows inputs d e node f w means g = record {
   within = let a = means.within in let b = grows_length inputs d e w g in omega arith;
@@ -50,9 +52,11 @@ join_gives inputs d op left right f g sound mf mg =
     add_gives inputs d (nodes.Binary op Unsigned left right) (λ input. node_value (nodes.Binary op Unsigned 0 1) input (f input ∷ g input ∷ [])) sound (mf.within, mg.within)
     (λ input small. rw (mf.is input small, mg.is input small) refl)
 
+-- a constant gives itself
 constant_gives : (inputs : ℕ) (d : Drawn) (v : ℕ) → Sound inputs d → v < value_bound → Gives inputs d (add (nodes.Constant v) d) (λ input. v) 2
 constant_gives inputs d v sound small = add_gives inputs d (nodes.Constant v) (λ input. v) sound small (λ input words. refl)
 
+-- a comparison gives whether the word is the number
 pub equals_gives : (inputs : ℕ) (d : Drawn) (node number : ℕ) (f : (ℕ → ℕ) → ℕ) → Sound inputs d → Means inputs d node f → number < value_bound
     → Gives inputs d (equals node number d) (λ input. truth (f input == number)) 35
 unfolding equals
@@ -62,6 +66,7 @@ equals_gives inputs d node number f sound means small =
     (join_gives inputs (add (nodes.Constant number) d).drawn binaries.Eq node (length d.list) f (λ input. number) c.grows.sound
     (means_grows inputs d (add (nodes.Constant number) d).drawn node f 2 means c.grows) (means_of inputs d (add (nodes.Constant number) d) (λ input. number) 2 c))
 
+-- a mask gives the bits of the word under it
 pub masked_gives : (inputs : ℕ) (d : Drawn) (node mask : ℕ) (f : (ℕ → ℕ) → ℕ) → Sound inputs d → Means inputs d node f → mask < value_bound
     → Gives inputs d (masked node mask d) (λ input. bit_and (f input) mask) 34
 unfolding masked
@@ -77,9 +82,11 @@ masked_gives inputs d node mask f sound means small =
 pub record Tested (inputs : ℕ) (drawn : Drawn) (tests : List ℕ) (word : (ℕ → ℕ) → ℕ) (step : ℕ) : Type 0 where
   pub means : (k : ℕ) → k < length tests → Means inputs drawn (slice_index tests k) (λ input. truth (word input == k * step))
 
+-- tests mean the same in a draft that grew
 pub tested_grows : (inputs : ℕ) (d e : Drawn) (tests : List ℕ) (f : (ℕ → ℕ) → ℕ) (step w : ℕ) → Tested inputs d tests f step → Grows inputs d e w → Tested inputs e tests f step
 tested_grows inputs d e tests f step w tested g = record { means = λ k lt. means_grows inputs d e (slice_index tests k) (λ input. truth (f input == k * step)) w (tested.means k lt) g }
 
+-- one test more
 tested_push : (inputs : ℕ) (d : Drawn) (tests : List ℕ) (node : ℕ) (f : (ℕ → ℕ) → ℕ) (step : ℕ) → Tested inputs d tests f step → Means inputs d node (λ input. truth (f input == length tests * step))
     → Tested inputs d (tests ++ node ∷ []) f step
 tested_push inputs d tests node f step tested means = record { means = λ k lt. by_place k lt (nat_le (suc k) (length tests)) refl }
@@ -104,6 +111,7 @@ pub record Compares (inputs : ℕ) (before : Drawn) (compared : Compared) (word 
   pub tested : Tested inputs compared.drawn compared.tests word step
   pub count_is : length compared.tests ≡ count
 
+-- comparisons give their tests
 pub compare_gives : (inputs node number step more : ℕ) (compared : Compared) (f : (ℕ → ℕ) → ℕ) → Sound inputs compared.drawn → Means inputs compared.drawn node f
     → Tested inputs compared.drawn compared.tests f step → number ≡ length compared.tests * step → number + more * step < value_bound + step
     → Compares inputs compared.drawn (compare_from node number step more compared) f step (length compared.tests + more) (more * 35)
@@ -136,17 +144,20 @@ compare_gives inputs node number step (suc more) compared f sound means tested i
       count_is = let c = later.count_is in omega (arith, c, size);
     }
 
+-- no tests
 pub tested_none : (inputs : ℕ) (d : Drawn) (f : (ℕ → ℕ) → ℕ) (step : ℕ) → Tested inputs d [] f step
 tested_none inputs d f step = record { means = λ k lt. absurd (let z : ⊥ = omega arith in z) }
 
 -- ---- splitting a number
 
+-- the conjunction of two truth values
 both_truths : (a b : Bool) → truth (is_true (truth a) && is_true (truth b)) ≡ truth (a && b)
 both_truths true true = refl
 both_truths true false = refl
 both_truths false true = refl
 both_truths false false = refl
 
+-- equal numbers are equal by test
 eq_same : (a b : ℕ) → a ≡ b → (a == b) ≡ true
 eq_same a b e = decide (a == b) refl
   where
@@ -154,6 +165,7 @@ eq_same a b e = decide (a == b) refl
     decide true h = h
     decide false h = absurd (eqb-false a b h e)
 
+-- unequal numbers are unequal by test
 eq_other : (a b : ℕ) → (a ≡ b → ⊥) → (a == b) ≡ false
 eq_other a b n = decide (a == b) refl
   where
@@ -190,6 +202,7 @@ split_is i place small =
 abbrev pub decode_weight : ℕ → ℕ
 decode_weight len = if nat_le len 32 then 0 else long_index_number len
 
+-- what a test of a place weighs
 abbrev pub test_weight : ℕ → ℕ
 test_weight len = if nat_le len 32 then 35 else 3
 
@@ -203,6 +216,7 @@ pub record GivesDecoded (inputs : ℕ) (before : Drawn) (decoded : Decoded) (len
   pub memory : (input : ℕ → ℕ) → memory_of input decoded.drawn ≡ memory_of input before
   pub decodes : Decodes inputs decoded.drawn decoded.decoder len word test
 
+-- an index that is compared with each place
 direct_gives : (inputs : ℕ) (d : Drawn) (index len : ℕ) (f : (ℕ → ℕ) → ℕ) → Sound inputs d → Means inputs d index f → len ≤ 4294967296
     → GivesDecoded inputs d (record { drawn = d; decoder = Direct index }) len f 0 35
 unfolding at_place
@@ -212,6 +226,7 @@ direct_gives inputs d index len f sound means short = record {
   decodes = record { tests = λ place lt later w g. equals_gives inputs later index place f g.sound (means_grows inputs d later index f w means g) (omega arith) };
 }
 
+-- the tests of the group and of the place in it together
 both_gives : (inputs : ℕ) (d : Drawn) (groups places : List ℕ) (f : (ℕ → ℕ) → ℕ) (len : ℕ) → ((input : ℕ → ℕ) → AreWords input → f input < value_bound)
     → Tested inputs d groups (λ input. bit_and (f input) group_mask) 32 → Tested inputs d places (λ input. bit_and (f input) place_mask) 1 → length groups ≡ groups_of len → length places ≡ 32
     → Decodes inputs d (Split groups places) len f 3
@@ -229,6 +244,7 @@ both_gives inputs d groups places f len word tested_groups tested_places count_g
       (omega arith);
 }
 
+-- an index that is split into its group and its place in it
 split_gives : (inputs : ℕ) (d : Drawn) (index len : ℕ) (f : (ℕ → ℕ) → ℕ) → Sound inputs d → Means inputs d index f → len ≤ 4294967296
     → GivesDecoded inputs d (split_groups index len (masked index group_mask d)) len f (long_index_number len) 3
 unfolding group_size
@@ -253,6 +269,7 @@ split_gives inputs d index len f sound means short =
           (let c = cg.count_is in omega (arith, c)) (let c = cp.count_is in omega (arith, c));
     }
 
+-- a decoded index has the tests of each place
 pub decode_gives : (inputs : ℕ) (d : Drawn) (index len : ℕ) (f : (ℕ → ℕ) → ℕ) → Sound inputs d → Means inputs d index f → len ≤ 4294967296
     → GivesDecoded inputs d (decode index len d) len f (decode_weight len) (test_weight len)
 unfolding decode

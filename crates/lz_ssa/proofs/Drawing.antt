@@ -52,6 +52,7 @@ pub record Gives (inputs : ℕ) (before : Drawn) (made : With) (word : (ℕ → 
 
 -- ---- growth
 
+-- a draft that grew has no fewer nodes
 pub grows_length : (inputs : ℕ) (d e : Drawn) (w : ℕ) → Grows inputs d e w → length d.list ≤ length e.list
 grows_length inputs d e w g = let k = ap length g.is in let s = length-append d.list g.more in omega (arith, k, s)
 
@@ -59,6 +60,7 @@ grows_length inputs d e w g = let k = ap length g.is in let s = length-append d.
 pub grows_keeps : (inputs : ℕ) (d e : Drawn) (w : ℕ) → Grows inputs d e w → (input : ℕ → ℕ) (k : ℕ) → k < length d.list → word_at input e k ≡ word_at input d k
 grows_keeps inputs d e w g input k lt = ap (λ (list : List Node). slice_index (values_of input list) k) g.is ∙ value_stays input d.list g.more k lt
 
+-- growth behind growth
 pub grows_then : (inputs : ℕ) (d e f : Drawn) (w v : ℕ) → Grows inputs d e w → Grows inputs e f v → Grows inputs d f (w + v)
 grows_then inputs d e f w v g h = record {
   more = g.more ++ h.more;
@@ -67,9 +69,11 @@ grows_then inputs d e f w v g h = record {
   weighs = let a = g.weighs in let b = h.weighs in omega arith;
 }
 
+-- no growth
 pub grows_none : (inputs : ℕ) (d : Drawn) → Sound inputs d → Grows inputs d d 0
 grows_none inputs d sound = record { more = []; is = sym (append-nil d.list); sound = sound; weighs = omega arith }
 
+-- growth of at most a greater weight
 pub grows_most : (inputs : ℕ) (d e : Drawn) (w v : ℕ) → w ≤ v → Grows inputs d e w → Grows inputs d e v
 grows_most inputs d e w v le g = record { more = g.more; is = g.is; sound = g.sound; weighs = let a = g.weighs in omega arith }
 
@@ -97,11 +101,13 @@ gives_then inputs d e m f w v g same gives = record {
 pub means_later : (inputs : ℕ) (d e : Drawn) (m : With) (f : (ℕ → ℕ) → ℕ) (w v : ℕ) → Gives inputs d m f w → Grows inputs m.drawn e v → (input : ℕ → ℕ) → AreWords input → word_at input e m.node ≡ f input
 means_later inputs d e m f w v gives g input small = grows_keeps inputs m.drawn e v g input m.node gives.within ∙ gives.means input small
 
+-- a node that was made stays one of the nodes
 pub within_later : (inputs : ℕ) (d e : Drawn) (m : With) (f : (ℕ → ℕ) → ℕ) (w v : ℕ) → Gives inputs d m f w → Grows inputs m.drawn e v → m.node < length e.list
 within_later inputs d e m f w v gives g = let a = gives.within in let b = grows_length inputs m.drawn e v g in omega arith
 
 -- ---- the memory
 
+-- what names nodes of a draft names nodes of a longer one
 held_later : (n m : ℕ) (words : List Held) → n ≤ m → AllByRecursion (IsHeldOf n) words → AllByRecursion (IsHeldOf m) words
 held_later n m [] le all = tt
 held_later n m (First v ∷ rest) le all = (all.0, held_later n m rest le all.1)
@@ -118,18 +124,22 @@ held_stays input xs ys (Made k ∷ rest) all =
 
 -- ---- one node more
 
+-- one node more, which names earlier ones
 pub add_sound : (inputs : ℕ) (d : Drawn) (x : Node) → Sound inputs d → IsNodeOf inputs (length d.list) x → Sound inputs (add x d).drawn
 add_sound inputs d x sound is = record {
   formed = nodes_append inputs 0 d.list (x ∷ []) sound.formed (nodes_one inputs (0 + length d.list) x (subst (λ (k : ℕ). IsNodeOf inputs k x) (let z : length d.list ≡ 0 + length d.list = omega arith in z) is));
   held = held_later (length d.list) (length (d.list ++ x ∷ [])) d.words (let s = length-append d.list (x ∷ []) in omega (arith, s)) sound.held;
 }
 
+-- it adds its number
 add_weight : (d : Drawn) (x : Node) → nodes_weight (d.list ++ x ∷ []) ≡ nodes_weight d.list + node_number x
 add_weight d x = let h = weight_append d.list (x ∷ []) in omega (arith, h)
 
+-- so the draft grew
 pub add_grows : (inputs : ℕ) (d : Drawn) (x : Node) → Sound inputs d → IsNodeOf inputs (length d.list) x → Grows inputs d (add x d).drawn (node_number x)
 add_grows inputs d x sound is = record { more = x ∷ []; is = refl; sound = add_sound inputs d x sound is; weighs = let h = add_weight d x in omega (arith, h) }
 
+-- the word of a new node
 pub add_gives : (inputs : ℕ) (d : Drawn) (x : Node) (f : (ℕ → ℕ) → ℕ) → Sound inputs d → IsNodeOf inputs (length d.list) x
     → ((input : ℕ → ℕ) → AreWords input → node_value x input (values_of input d.list) ≡ f input) → Gives inputs d (add x d) f (node_number x)
 unfolding memory_of
@@ -142,26 +152,31 @@ add_gives inputs d x f sound is same = record {
 
 -- ---- the node of a word of the memory
 
+-- what a word of the memory holds is in range
 held_at : (n : ℕ) (words : List Held) (place : ℕ) → AllByRecursion (IsHeldOf n) words → place < length words → IsHeldOf n (slice_index_or words place (First 0))
 held_at n [] place all lt = absurd (let z : ⊥ = omega arith in z)
 held_at n (x ∷ xs) zero all lt = all.0
 held_at n (x ∷ xs) (suc place) all lt = held_at n xs place all.1 (omega arith)
 
+-- the word at a place of a mapped list
 map_at : (f : Held → ℕ) (words : List Held) (place : ℕ) → place < length words → slice_index (map f words) place ≡ f (slice_index_or words place (First 0))
 map_at f [] place lt = absurd (let z : ⊥ = omega arith in z)
 map_at f (x ∷ xs) zero lt = refl
 map_at f (x ∷ xs) (suc place) lt = map_at f xs place (omega arith)
 
+-- a mapped list after a write
 map_set : (f : Held → ℕ) (words : List Held) (place : ℕ) (h : Held) → map f (set words place h) ≡ set (map f words) place (f h)
 map_set f [] place h = refl
 map_set f (x ∷ xs) zero h = refl
 map_set f (x ∷ xs) (suc place) h = ap (λ (t : List ℕ). f x ∷ t) (map_set f xs place h)
 
+-- a write of what was there
 set_at : (xs : List ℕ) (place v : ℕ) → v ≡ slice_index xs place → set xs place v ≡ xs
 set_at [] place v e = refl
 set_at (x ∷ xs) zero v e = ap (λ (h : ℕ). h ∷ xs) e
 set_at (x ∷ xs) (suc place) v e = ap (λ (t : List ℕ). x ∷ t) (set_at xs place v e)
 
+-- a write of what is in range
 held_set : (n : ℕ) (words : List Held) (place : ℕ) (h : Held) → AllByRecursion (IsHeldOf n) words → IsHeldOf n h → AllByRecursion (IsHeldOf n) (set words place h)
 held_set n [] place h all is = tt
 held_set n (x ∷ xs) zero h all is = (is, all.1)
@@ -171,10 +186,12 @@ held_set n (x ∷ xs) (suc place) h all is = (all.0, held_set n xs place h all.1
 pub with_word_sound : (inputs : ℕ) (place : ℕ) (m : With) → Sound inputs m.drawn → m.node < length m.drawn.list → Sound inputs (with_word place m)
 with_word_sound inputs place m sound within = record { formed = sound.formed; held = held_set (length m.drawn.list) m.drawn.words place (Made m.node) sound.held within }
 
+-- then the memory has the word of the node there
 pub with_word_memory : (place : ℕ) (m : With) (input : ℕ → ℕ) → memory_of input (with_word place m) ≡ set (memory_of input m.drawn) place (word_at input m.drawn m.node)
 unfolding memory_of
 with_word_memory place m input = map_set (held_word (values_of input m.drawn.list)) m.drawn.words place (Made m.node)
 
+-- by what the word holds
 word_gives_held : (inputs : ℕ) (d : Drawn) (place : ℕ) (h : Held) → Sound inputs d → place < length d.words → slice_index_or d.words place (First 0) ≡ h
     → Gives inputs d (held_node h place d) (λ input. slice_index (memory_of input d) place) 2
 unfolding memory_of

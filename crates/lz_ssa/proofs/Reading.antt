@@ -19,14 +19,17 @@ use Rattle.lz_ssa.proofs.Decoding.{Means, means_of, means_grows, Decodes, decode
 
 -- ---- the words of a draft stay as many
 
+-- a mapped list is as long
 length_mapped : {A : Type 0} (f : A → ℕ) (xs : List A) → length (map f xs) ≡ length xs
 length_mapped f [] = refl
 length_mapped f (x ∷ xs) = ap suc (length_mapped f xs)
 
+-- the memory has as many words as the draft
 pub length_memory : (input : ℕ → ℕ) (d : Drawn) → length (memory_of input d) ≡ length d.words
 unfolding memory_of
 length_memory input d = length_mapped _ d.words
 
+-- a node that was made keeps how many words there are
 pub gives_words : (inputs : ℕ) (d : Drawn) (m : With) (f : (ℕ → ℕ) → ℕ) (w : ℕ) → Gives inputs d m f w → length m.drawn.words ≡ length d.words
 gives_words inputs d m f w gives =
     let input : ℕ → ℕ = λ k. 0 in
@@ -38,6 +41,7 @@ gives_words inputs d m f w gives =
 abbrev pub chosen_word : ℕ → ℕ → ℕ → ℕ
 chosen_word test chosen other = if test == 0 then other else chosen
 
+-- a choice of nodes gives the choice of their words
 pub choose_gives : (inputs : ℕ) (d : Drawn) (test chosen other : ℕ) (f g h : (ℕ → ℕ) → ℕ) → Sound inputs d → Means inputs d test f → Means inputs d chosen g → Means inputs d other h
     → Gives inputs d (add (nodes.Choose test chosen other) d) (λ input. chosen_word (f input) (g input) (h input)) 33
 choose_gives inputs d test chosen other f g h sound mf mg mh =
@@ -63,6 +67,7 @@ read_more memory first place i = by_test (i == place) refl (nat_lt i place) refl
     by_test false h false k true l = let above : place ≤ i = grind arith in let below : i < suc place = grind arith in absurd (eqb-false i place h (omega arith))
     by_test false h false k false l = refl
 
+-- one place of a read
 read_turn_gives : (inputs : ℕ) (d : Drawn) (decoder : Decoder) (first len place t w : ℕ) (so_far : With) (index : (ℕ → ℕ) → ℕ) → Decodes inputs d decoder len index t → Grows inputs d so_far.drawn w → place < len
     → first + place < length so_far.drawn.words → so_far.node < length so_far.drawn.list → (memory : (ℕ → ℕ) → List ℕ) → ((input : ℕ → ℕ) → memory_of input so_far.drawn ≡ memory input)
     → ((input : ℕ → ℕ) → AreWords input → word_at input so_far.drawn so_far.node ≡ read_word (memory input) first place (index input))
@@ -90,6 +95,7 @@ read_turn_gives inputs d decoder first len place t w so_far index decodes g lt w
     ∙ read_more (memory input) first place (index input))
     (omega arith)
 
+-- the places of a read that are left
 read_from_gives : (inputs : ℕ) (d : Drawn) (decoder : Decoder) (first len place more t w : ℕ) (so_far : With) (index : (ℕ → ℕ) → ℕ) → Decodes inputs d decoder len index t → Grows inputs d so_far.drawn w → place + more ≡ len
     → AreWithin (length so_far.drawn.words) first len → so_far.node < length so_far.drawn.list → (memory : (ℕ → ℕ) → List ℕ) → ((input : ℕ → ℕ) → memory_of input so_far.drawn ≡ memory input)
     → ((input : ℕ → ℕ) → AreWords input → word_at input so_far.drawn so_far.node ≡ read_word (memory input) first place (index input))
@@ -113,6 +119,7 @@ read_from_gives inputs d decoder first len place (suc more) t w so_far index dec
     (gives_then inputs so_far.drawn turn.drawn (read_from decoder first (suc place) more turn) (λ input. read_word (memory input) first len (index input)) (t + 2 + 33) (more * (t + 35)) gt.grows gt.memory later)
     (λ input small. refl) weighs
 
+-- what a read by an index weighs
 element_weighs : (len : ℕ) → decode_weight len + 2 + len * (test_weight len + 35) ≤ element_number len
 element_weighs len = by_length (nat_le len 32)
   where
@@ -120,6 +127,7 @@ element_weighs len = by_length (nat_le len 32)
     by_length true = omega arith
     by_length false = omega arith
 
+-- a read by an index
 element_gives : (inputs first len w : ℕ) (d : Drawn) (m : With) (index : (ℕ → ℕ) → ℕ) → Gives inputs d m index w → AreWithin (length d.words) first len → len ≤ 4294967296
     → Gives inputs d (read_element first len m) (λ input. read_word (memory_of input d) first len (index input)) (w + element_number len)
 unfolding read_element
@@ -150,12 +158,14 @@ element_gives inputs first len w d m index gives within short =
 
 -- ---- expressions
 
+-- a unary operator at a node
 unary_gives : (inputs w : ℕ) (d : Drawn) (m : With) (op : Unary) (kind : IntType) (f : (ℕ → ℕ) → ℕ) → Gives inputs d m f w
     → Gives inputs d (add (nodes.Unary op kind m.node) m.drawn) (λ input. unary_value op (f input) kind) (w + unary_number op)
 unary_gives inputs w d m op kind f gives =
     gives_then inputs d m.drawn (add (nodes.Unary op kind m.node) m.drawn) (λ input. unary_value op (f input) kind) w (unary_number op) gives.grows gives.memory
     (add_gives inputs m.drawn (nodes.Unary op kind m.node) (λ input. unary_value op (f input) kind) gives.grows.sound gives.within (λ input small. ap (λ (v : ℕ). unary_value op v kind) (gives.means input small)))
 
+-- a conversion of a node
 convert_gives : (inputs w : ℕ) (d : Drawn) (m : With) (from to : IntType) (f : (ℕ → ℕ) → ℕ) → Gives inputs d m f w
     → Gives inputs d (add (nodes.Convert from to m.node) m.drawn) (λ input. converted (f input) from to) (w + 1)
 convert_gives inputs w d m from to f gives =
@@ -169,6 +179,7 @@ pub record Pair (inputs : ℕ) (d : Drawn) (first second : With) (f g : (ℕ →
   pub first_means : Means inputs second.drawn first.node f
   pub second_means : Means inputs second.drawn second.node g
 
+-- a node behind a node
 pub pair_gives : (inputs w v : ℕ) (d : Drawn) (m n : With) (f g : (ℕ → ℕ) → ℕ) → Gives inputs d m f w → Gives inputs m.drawn n g v → Pair inputs d m n f g (w + v)
 pair_gives inputs w v d m n f g first second = record {
   grows = grows_then inputs d m.drawn n.drawn w v first.grows second.grows;
@@ -177,6 +188,7 @@ pair_gives inputs w v d m n f g first second = record {
   second_means = means_of inputs m.drawn n g v second;
 }
 
+-- a binary operator at two nodes
 binary_gives : (inputs w : ℕ) (d : Drawn) (m n : With) (op : Binary) (kind : IntType) (f g : (ℕ → ℕ) → ℕ) → Pair inputs d m n f g w
     → Gives inputs d (add (nodes.Binary op kind m.node n.node) n.drawn) (λ input. binary_value op (f input) (g input) kind) (w + binary_number op)
 binary_gives inputs w d m n op kind f g pair =
@@ -192,10 +204,12 @@ value_in e d input = value e (memory_of input d)
 pub moved_back : (inputs : ℕ) (d e : Drawn) (m : With) (x : Expression) (w : ℕ) → ((input : ℕ → ℕ) → memory_of input e ≡ memory_of input d) → Gives inputs e m (value_in x e) w → Gives inputs e m (value_in x d) w
 moved_back inputs d e m x w same gives = gives_as inputs e m (value_in x e) (value_in x d) w w gives (λ input small. ap (value x) (same input)) (omega arith)
 
+-- a list within the words is no longer than they are many
 pub length_bound : (n first len : ℕ) → n ≤ 4294967296 → AreWithin n first len → len ≤ 4294967296
 length_bound n first zero short within = omega arith
 length_bound n first (suc len) short within = let h = within len (omega arith) in omega arith
 
+-- the node of an expression has its value, and weighs no more
 pub expression_gives : (inputs : ℕ) (e : Expression) (d : Drawn) → Sound inputs d → length d.words ≤ 4294967296 → IsExpressionOf (length d.words) e → Gives inputs d (expression_node e d) (value_in e d) (expression_weight e)
 unfolding expression_node value
 expression_gives inputs (constant v) d sound short is = add_gives inputs d (nodes.Constant v) (λ input. v) sound is (λ input small. refl)

@@ -34,6 +34,7 @@ data Zero (n : ℕ) : Type 0 where
   is_zero : n ≡ 0 → (n == 0) ≡ true → Zero n
   is_not : n ≢ 0 → (n == 0) ≡ false → Zero n
 
+-- a number is 0 or not
 zero_or_not : (n : ℕ) → Zero n
 zero_or_not n = decide (n == 0) refl
   where
@@ -57,12 +58,15 @@ left_moves alive failed memory after input i over first rest whole e (goes f a s
 abbrev pub both : ℕ → ℕ → ℕ
 both a b = truth (is_true a && is_true b)
 
+-- whether one of two words is not 0, as a word
 abbrev pub either : ℕ → ℕ → ℕ
 either a b = truth (is_true a || is_true b)
 
+-- whether a word is 0, as a word
 abbrev pub not_word : ℕ → ℕ
 not_word a = truth (a == 0)
 
+-- 1 is not 0
 one_is_not : ◌≢◌ {A = ℕ} 1 0
 one_is_not e = let z : ◌≡◌ {A = ℕ} 1 0 = e in omega arith
 
@@ -150,6 +154,7 @@ pub record UnderGuard (inputs : ℕ) (before : Drawn) (guard second : With) (g f
   pub guard_means : Means inputs second.drawn guard.node g
   pub second_means : Means inputs second.drawn second.node f
 
+-- a guard and a second node behind it
 pub guarded_by : (inputs w v : ℕ) (d : Drawn) (guard second : With) (g f : (ℕ → ℕ) → ℕ) → Gives inputs d guard g w → Gives inputs guard.drawn second f v → UnderGuard inputs d guard second g f (w + v)
 guarded_by inputs w v d guard second g f a b = record {
   grows = grows_then inputs d guard.drawn second.drawn w v a.grows b.grows;
@@ -183,6 +188,7 @@ not_gives inputs d node f sound means =
 alive_means : (inputs : ℕ) (d : Drawn) (node : ℕ) → node < length d.list → Means inputs d node (λ input. word_at input d node)
 alive_means inputs d node within = record { within = within; is = λ input small. refl }
 
+-- an assumption
 pub assume_stated : (inputs : ℕ) (d : Drawn) (alive failed i : ℕ) (guard test : Expression) (g t : With) (w : ℕ) → length t.drawn.words ≡ length d.words
     → alive < length d.list → failed < length d.list → UnderGuard inputs d g t (value_in guard d) (value_in test d) w
     → Stated inputs (record { drawn = d; alive = alive; failed = failed }) (assume_made alive failed g.node t) i (record { guard = guard; instr = assumes test }) (w + 7)
@@ -213,6 +219,7 @@ assume_stated inputs d alive failed i guard test g t w same a b under =
           (left_assumes (word_at input d alive) (word_at input d failed) (memory_of input d) input i guard test rest whole left);
     }
 
+-- a check
 pub check_stated : (inputs : ℕ) (d : Drawn) (alive failed i : ℕ) (guard test : Expression) (kind : BreakKind) (line : ℕ) (g t : With) (w : ℕ) → length t.drawn.words ≡ length d.words
     → alive < length d.list → failed < length d.list → UnderGuard inputs d g t (value_in guard d) (value_in test d) w
     → Stated inputs (record { drawn = d; alive = alive; failed = failed }) (check_made alive failed g.node t) i (record { guard = guard; instr = checks test kind line }) (w + 10)

@@ -14,6 +14,7 @@ unfolding values_from
 values_append input words [] ys = refl
 values_append input words (x ∷ xs) ys = values_append input (words ++ node_value x input words ∷ []) xs ys
 
+-- the words with those of one node
 values_one : (input : ℕ → ℕ) (words : List ℕ) (x : Node) → values_from input words (x ∷ []) ≡ words ++ node_value x input words ∷ []
 unfolding values_from
 values_one input words x = refl
@@ -57,12 +58,14 @@ value_last input list x =
 
 -- ---- well formed nodes
 
+-- nodes behind nodes, each of which names earlier ones
 pub nodes_append : (inputs before : ℕ) (xs ys : List Node) → AreNodesFrom inputs before xs → AreNodesFrom inputs (before + length xs) ys → AreNodesFrom inputs before (xs ++ ys)
 unfolding AreNodesFrom
 nodes_append inputs before [] ys first second = subst (λ (k : ℕ). AreNodesFrom inputs k ys) (let z : before + 0 ≡ before = omega arith in z) second
 nodes_append inputs before (x ∷ xs) ys first second =
     (first.0, nodes_append inputs (suc before) xs ys first.1 (subst (λ (k : ℕ). AreNodesFrom inputs k ys) (let z : before + suc (length xs) ≡ suc before + length xs = omega arith in z) second))
 
+-- one node, which names earlier ones
 pub nodes_one : (inputs before : ℕ) (x : Node) → IsNodeOf inputs before x → AreNodesFrom inputs before (x ∷ [])
 unfolding AreNodesFrom
 nodes_one inputs before x is = (is, tt)
@@ -75,6 +78,7 @@ AreWords input = (k : ℕ) → input k < value_bound
 abbrev pub Words : List ℕ → Type 0
 Words words = (k : ℕ) → slice_index words k < value_bound
 
+-- a choice of words is a word
 choose_word : (b : Bool) (x y : ℕ) → x < value_bound → y < value_bound → cond b x y < value_bound
 choose_word true x y h k = h
 choose_word false x y h k = k
@@ -88,6 +92,7 @@ node_word inputs before (Binary op kind left right) input words is small all = b
 node_word inputs before (Convert from to of) input words is small all = converted_word (slice_index words of) from to (all of)
 node_word inputs before (Choose test chosen other) input words is small all = choose_word (eqb (slice_index words test) 0) (slice_index words other) (slice_index words chosen) (all other) (all chosen)
 
+-- one word more
 words_push : (words : List ℕ) (v : ℕ) → Words words → v < value_bound → Words (words ++ v ∷ [])
 words_push [] v all word zero = word
 words_push [] v all word (suc zero) = omega arith
@@ -104,6 +109,7 @@ values_words inputs before (x ∷ xs) input words are small all =
 
 -- ---- weights
 
+-- the weight of nodes behind nodes
 pub weight_append : (xs ys : List Node) → nodes_weight (xs ++ ys) ≡ nodes_weight xs + nodes_weight ys
 weight_append [] ys = let z : nodes_weight ys ≡ 0 + nodes_weight ys = omega arith in z
 weight_append (x ∷ xs) ys = let h = weight_append xs ys in omega arith

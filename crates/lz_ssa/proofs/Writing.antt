@@ -25,6 +25,7 @@ pub record Writes (inputs : ℕ) (before after : Drawn) (memory : (ℕ → ℕ) 
 
 -- ---- one word
 
+-- a write of one word leaves the choice between the value and what was there
 pub write_word_gives : (inputs : ℕ) (d : Drawn) (place guard written : ℕ) (g v : (ℕ → ℕ) → ℕ) → Sound inputs d → place < length d.words → Means inputs d guard g → Means inputs d written v
     → Writes inputs d (write_word place guard written d) (λ input. slice_set (memory_of input d) place (chosen_word (g input) (v input) (slice_index (memory_of input d) place))) 35
 unfolding write_word
@@ -48,6 +49,7 @@ write_word_gives inputs d place guard written g v sound lt mg mv =
 abbrev pub guarded : ℕ → List ℕ → List ℕ → List ℕ
 guarded guard old new = if guard == 0 then old else new
 
+-- which is the write where the guard is not 0, and else nothing
 set_chosen : (memory : List ℕ) (place guard v : ℕ) → slice_set memory place (chosen_word guard v (slice_index memory place)) ≡ guarded guard memory (slice_set memory place v)
 set_chosen memory place guard v = by_test (guard == 0)
   where
@@ -61,6 +63,7 @@ set_chosen memory place guard v = by_test (guard == 0)
 abbrev pub written_to : List ℕ → ℕ → ℕ → ℕ → ℕ → ℕ → List ℕ
 written_to memory first places guard v i = guarded guard memory (if nat_lt i places then slice_set memory (first + i) v else memory)
 
+-- one place more of a write by an index
 write_more : (memory : List ℕ) (first place guard v i : ℕ)
     → slice_set (written_to memory first place guard v i) (first + place) (chosen_word (truth (is_true guard && is_true (truth (i == place)))) v (slice_index (written_to memory first place guard v i) (first + place)))
     ≡ written_to memory first (suc place) guard v i
@@ -79,6 +82,7 @@ write_more memory first place guard v i = by_test (guard == 0) (i == place) refl
     by_test false false h false k true l = let above : place ≤ i = grind arith in let below : i < suc place = grind arith in absurd (eqb-false i place h (omega arith))
     by_test false false h false k false l = set-get_or memory (first + place) 0
 
+-- one place of a write
 write_turn_gives : (inputs : ℕ) (d so_far : Drawn) (decoder : Decoder) (first len place guard written t w : ℕ) (index g v : (ℕ → ℕ) → ℕ) → Decodes inputs d decoder len index t → Grows inputs d so_far w → place < len
     → first + place < length so_far.words → Means inputs so_far guard g → Means inputs so_far written v → (memory : (ℕ → ℕ) → List ℕ)
     → ((input : ℕ → ℕ) → AreWords input → memory_of input so_far ≡ written_to (memory input) first place (g input) (v input) (index input))
@@ -104,6 +108,7 @@ write_turn_gives inputs d so_far decoder first len place guard written t w index
       words = ww.words ∙ words;
     }
 
+-- the places of a write that are left
 write_from_gives : (inputs : ℕ) (d so_far : Drawn) (decoder : Decoder) (first len place more guard written t w : ℕ) (index g v : (ℕ → ℕ) → ℕ) → Decodes inputs d decoder len index t → Grows inputs d so_far w → place + more ≡ len
     → AreWithin (length so_far.words) first len → Means inputs so_far guard g → Means inputs so_far written v → (memory : (ℕ → ℕ) → List ℕ)
     → ((input : ℕ → ℕ) → AreWords input → memory_of input so_far ≡ written_to (memory input) first place (g input) (v input) (index input))
@@ -130,6 +135,7 @@ write_from_gives inputs d so_far decoder first len place (suc more) guard writte
       words = later.words ∙ words;
     }
 
+-- what a write by an index weighs
 write_weighs : (len : ℕ) → decode_weight len + len * (test_weight len + 38) ≤ write_number len
 write_weighs len = by_length (nat_le len 32)
   where
@@ -141,6 +147,7 @@ write_weighs len = by_length (nat_le len 32)
 abbrev pub put_at : List ℕ → ℕ → ℕ → ℕ → ℕ → ℕ → List ℕ
 put_at memory first len guard v i = guarded guard memory (if nat_lt i len then slice_set memory (first + i) v else memory)
 
+-- before the first place nothing is written
 none_written : (memory : List ℕ) (first guard v i : ℕ) → memory ≡ written_to memory first 0 guard v i
 none_written memory first guard v i = by_test (guard == 0) (nat_lt i 0) refl
   where
@@ -149,6 +156,7 @@ none_written memory first guard v i = by_test (guard == 0) (nat_lt i 0) refl
     by_test false true e = absurd (let z : i < 0 = grind arith in let y : ⊥ = omega arith in y)
     by_test false false e = refl
 
+-- a write by the node of an index
 write_element_gives : (inputs first len guard written w : ℕ) (d : Drawn) (m : With) (index g v : (ℕ → ℕ) → ℕ) → Gives inputs d m index w → AreWithin (length d.words) first len → len ≤ 4294967296
     → Means inputs d guard g → Means inputs d written v
     → Writes inputs d (write_element first len guard written m) (λ input. put_at (memory_of input d) first len (g input) (v input) (index input)) (w + write_number len)
@@ -169,6 +177,7 @@ write_element_gives inputs first len guard written w d m index g v gives within 
       words = chain.words ∙ words;
     }
 
+-- the value of a constant
 constant_is : (k : ℕ) (m : List ℕ) → k ≡ value (constant k) m
 unfolding value
 constant_is k m = refl
@@ -201,6 +210,7 @@ write_constant_gives inputs first len guard written c d g v sound within mg mv =
 abbrev pub put_under : Location → ℕ → ℕ → List ℕ → List ℕ
 put_under to guard v memory = guarded guard memory (put to v memory)
 
+-- a write by an index that is no constant
 write_indexed_gives : (inputs first len guard written : ℕ) (index : Expression) (d : Drawn) (g v : (ℕ → ℕ) → ℕ) → Sound inputs d → length d.words ≤ 4294967296 → AreWithin (length d.words) first len → IsExpressionOf (length d.words) index
     → Means inputs d guard g → Means inputs d written v
     → Writes inputs d (write_element first len guard written (expression_node index d)) (λ input. put_at (memory_of input d) first len (g input) (v input) (value index (memory_of input d))) (write_number len + expression_weight index)
@@ -213,6 +223,7 @@ write_indexed_gives inputs first len guard written index d g v sound short withi
       words = e.words;
     }
 
+-- a write by any index
 write_by_gives : (inputs first len guard written : ℕ) (index : Expression) (d : Drawn) (g v : (ℕ → ℕ) → ℕ) → Sound inputs d → length d.words ≤ 4294967296 → AreWithin (length d.words) first len → IsExpressionOf (length d.words) index
     → Means inputs d guard g → Means inputs d written v
     → Writes inputs d (write_by index first len guard written d) (λ input. put_at (memory_of input d) first len (g input) (v input) (value index (memory_of input d))) (location_number len index + expression_weight index)
@@ -230,6 +241,7 @@ write_by_gives inputs first len guard written (binary op kind left right) d g v 
 write_by_gives inputs first len guard written (convert from to of) d g v sound short within is mg mv = write_indexed_gives inputs first len guard written (convert from to of) d g v sound short within is mg mv
 write_by_gives inputs first len guard written (choose test chosen other) d g v sound short within is mg mv = write_indexed_gives inputs first len guard written (choose test chosen other) d g v sound short within is mg mv
 
+-- a write to a location
 pub write_gives : (inputs guard : ℕ) (to : Location) (m : With) (g v : (ℕ → ℕ) → ℕ) → Sound inputs m.drawn → length m.drawn.words ≤ 4294967296 → IsLocationOf (length m.drawn.words) to
     → Means inputs m.drawn guard g → Means inputs m.drawn m.node v
     → Writes inputs m.drawn (write to guard m) (λ input. put_under to (g input) (v input) (memory_of input m.drawn)) (location_weight to)

@@ -1,0 +1,12 @@
+pub mod PrefixLemmas
+pub mod LongestLemmas
+pub mod ClassLemmas
+pub mod ConstantLemmas
+pub mod CommentLemmas
+pub mod MarkLemmas
+pub mod FirstLemmas
+pub mod CutLemmas
+pub mod DigitsLemmas
+pub mod EndLemmas
+pub mod NamesLemmas
+pub mod ErrorLemmas

@@ -1,0 +1,233 @@
+ghost use Rattle.std.specs.Prelude.{◌≢◌, ℕ, ◌<◌, [], IsTrue};
+ghost use Rattle.std.specs.List.{All};
+ghost use Rattle.lz_cnf.specs.Models.{variable_of, IsFormula};
+
+use crate::{Solved, solve};
+use lz_analyze::learn;
+use lz_base::{Memory, Sequence};
+use lz_cnf::{Clause, Cnf, Lit};
+use lz_prop::{Propagated, Trail};
+use std::alloc::Global;
+use std::process::Abort;
+use std::test::Fail;
+
+/// Ends a clause in the tables.
+const END: u32 = 4294967295;
+
+/// The formula of clauses that are given by the numbers of their literals.
+fn formula(alloc: Global, variables: u32, numbers: &[u32]) -> Result<Cnf, Memory> {
+    let mut clauses = Sequence::new(alloc);
+    let mut clause: Clause = Sequence::new(alloc);
+    for number in numbers {
+        if *number == END {
+            clauses.push(clause)?;
+            clause = Sequence::new(alloc);
+        } else {
+            clause.push(Lit(*number))?;
+        }
+    }
+    Ok(Cnf { variables, clauses })
+}
+
+/// Whether the clause has only variables below this number.
+fn has_only(clause: &[Lit], variables: u32) -> bool
+    ensures { IsTrue result → All (λ lit. variable_of lit < variables) clause.now }
+{
+    for lit in clause {
+        if lit.0 / 2 >= variables {
+            return false;
+        }
+    }
+    true
+}
+
+/// Whether the clauses have only the formula's variables and none is empty.
+fn is_fit(cnf: &Cnf) -> bool
+    ensures formula { IsTrue result → IsFormula cnf.now }
+    ensures not_empty { IsTrue result → All (λ c. c ≢ []) cnf.now.clauses }
+{
+    for clause in cnf.clauses.items() {
+        if clause.items().is_empty() {
+            return false;
+        }
+        if !has_only(clause.items(), cnf.variables) {
+            return false;
+        }
+    }
+    true
+}
+
+/// The kind of the answer, and the number of its values or steps.
+fn answer(alloc: Global, cnf: &Cnf, conflicts: u64) -> Result<(&'static str, usize), Memory> {
+    if !is_fit(cnf) || conflicts < 1 || conflicts > 1000000 || cnf.clauses.items().len() > 1000000 {
+        return Err(Memory);
+    }
+    match solve(alloc, cnf, conflicts)? {
+        Solved::Sat(values) => Ok(("model", values.items().len())),
+        Solved::Unsat(log) => Ok(("refuted", log.items().len())),
+        Solved::Spent(log) => Ok(("spent", log.items().len())),
+    }
+}
+
+/// One row: the formula's clauses, the conflicts that are allowed, and the answer.
+fn row(
+    rt: &impl Abort,
+    alloc: Global,
+    reason: &str,
+    variables: u32,
+    numbers: &[u32],
+    conflicts: u64,
+    kind: &str,
+    count: usize,
+) -> Result<(), Memory> {
+    let cnf = formula(alloc, variables, numbers)?;
+    let (was, len) = answer(alloc, &cnf, conflicts)?;
+    assert!(rt; was == kind, "{reason}");
+    assert!(rt; len == count, "{reason}");
+    Ok(())
+}
+
+#[test]
+fn answers_with_ample_memory(rt: HostRuntime) -> Result<(), Fail> {
+    let alloc = rt.alloc();
+    let square = &[0, 2, END, 1, 2, END, 0, 3, END, 1, 3, END];
+    row(
+        &rt,
+        alloc,
+        "no variables and no clauses",
+        0,
+        &[],
+        1,
+        "model",
+        0,
+    )?;
+    row(&rt, alloc, "no clauses", 1, &[], 1, "model", 1)?;
+    row(&rt, alloc, "one literal", 1, &[1, END], 1, "model", 1)?;
+    row(
+        &rt,
+        alloc,
+        "a repeated literal is one",
+        1,
+        &[0, 0, END],
+        1,
+        "model",
+        1,
+    )?;
+    row(&rt, alloc, "both signs", 1, &[0, 1, END], 1, "model", 1)?;
+    row(
+        &rt,
+        alloc,
+        "twice the same clause",
+        2,
+        &[0, 2, END, 0, 2, END],
+        1,
+        "model",
+        2,
+    )?;
+    row(
+        &rt,
+        alloc,
+        "propagation alone refutes",
+        2,
+        &[0, END, 1, 2, END, 1, 3, END],
+        1,
+        "refuted",
+        1,
+    )?;
+    row(
+        &rt,
+        alloc,
+        "a variable that is true and false",
+        1,
+        &[0, END, 1, END],
+        1,
+        "refuted",
+        1,
+    )?;
+    row(
+        &rt,
+        alloc,
+        "no value of two variables, one conflict",
+        2,
+        square,
+        1,
+        "spent",
+        1,
+    )?;
+    row(
+        &rt,
+        alloc,
+        "no value of two variables, nine conflicts",
+        2,
+        square,
+        9,
+        "refuted",
+        2,
+    )?;
+    Ok(())
+}
+
+/// What propagation finds in a formula, and how many literals are then true.
+fn found(alloc: Global, cnf: &Cnf) -> Result<(Propagated, usize), Memory> {
+    if !is_fit(cnf) {
+        return Err(Memory);
+    }
+    let mut trail = Trail::new(alloc, cnf)?;
+    let answer = trail.propagate()?;
+    Ok((answer, trail.order().len()))
+}
+
+/// What is learnt where propagation refutes a formula: how many literals and hints, and the level.
+fn learnt_at_zero(alloc: Global, cnf: &Cnf) -> Result<(usize, usize, u32), Memory> {
+    if !is_fit(cnf) {
+        return Err(Memory);
+    }
+    let mut trail = Trail::new(alloc, cnf)?;
+    match trail.propagate()? {
+        Propagated::Quiet => Err(Memory),
+        Propagated::Conflict { clause } => {
+            let learnt = learn(alloc, &trail, clause)?;
+            Ok((
+                learnt.clause.items().len(),
+                learnt.hints.items().len(),
+                learnt.level,
+            ))
+        }
+    }
+}
+
+/// The number of a clause that is added to those of a formula, and what propagation then finds.
+fn added(alloc: Global, cnf: &Cnf) -> Result<(u32, Propagated), Memory> {
+    if !is_fit(cnf) || cnf.variables < 1 {
+        return Err(Memory);
+    }
+    let mut trail = Trail::new(alloc, cnf)?;
+    let number = trail.add(&[Lit(0)])?;
+    let answer = trail.propagate()?;
+    Ok((number, answer))
+}
+
+#[test]
+fn trail_and_learning(rt: HostRuntime) -> Result<(), Fail> {
+    let alloc = rt.alloc();
+    let chain = formula(alloc, 3, &[1, 2, END, 3, 4, END, 0, END])?;
+    assert!(rt;
+        found(alloc, &chain)? == (Propagated::Quiet, 3),
+        "a chain from its last clause"
+    );
+    let refuted = formula(alloc, 2, &[0, END, 1, 2, END, 1, 3, END])?;
+    assert!(rt;
+        found(alloc, &refuted)? == (Propagated::Conflict { clause: 3 }, 2),
+        "the third clause is false"
+    );
+    assert!(rt;
+        learnt_at_zero(alloc, &refuted)? == (0, 3, 0),
+        "the empty clause by all three"
+    );
+    let open = formula(alloc, 2, &[1, 2, END])?;
+    assert!(rt;
+        added(alloc, &open)? == (2, Propagated::Quiet),
+        "numbered after the formula's"
+    );
+    Ok(())
+}
