@@ -1,0 +1,4 @@
+pub mod Counts
+pub mod Encoding
+pub mod Formulas
+pub mod Steps
