@@ -5,3 +5,4 @@ pub mod WordsMade
 pub mod AddsLemmas
 pub mod DecidesLemmas
 pub mod TurnsLemmas
+pub mod ExampleLemmas

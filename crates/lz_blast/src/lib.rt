@@ -8,3 +8,6 @@ mod node;
 
 pub use formula::{Blasted, blast};
 pub use input::BitsList;
+
+#[cfg(test)]
+mod tests;
