@@ -312,7 +312,7 @@ abbrev pub maybe_goes : {K X : Type 0} → (K → Bool) → (X → K → Bool) �
 maybe_goes p g None c = p c
 maybe_goes p g (Some x) c = g x c
 
-module _ {K X : Type 0} (p : K → Bool) (l : X → List K → Type 0) (r : Reader K X) (g : X → K → Bool) (a : Exact l r g)
+module _ {K X : Type 0} (p : K → Bool) (l : X → List K → Type 0) (r : Reader K X) (g : X → K → Bool) (a : (c : K) → p c ≡ true → Exact l r g)
     (some : (x : X) → l x [] → ⊥)
     (heads : (x : X) (c : K) (u : List K) → l x (c ∷ u) → p c ≡ true)
     (begins : (c : K) → p c ≡ true → Viable l (c ∷ [])) where
@@ -324,26 +324,31 @@ module _ {K X : Type 0} (p : K → Bool) (l : X → List K → Type 0) (r : Read
   started x [] rest m = absurd (some x m)
   started x (c ∷ u) rest m = heads x c u m
 
+  -- the reader is exact where it is chosen
+  chosen_here : (ts : List K) → starts p ts ≡ true → Exact l r g
+  chosen_here [] e = absurd cc
+  chosen_here (c ∷ ts) e = a c e
+
   maybe_complete : (t : Option X) (u rest : List K) → maybe l t u → Ends (maybe_goes p g t) rest → optional p r (u ++ rest) ≡ gives t rest
   unfolding optional
   maybe_complete None u rest m e = rw m (rw (not_started rest e) refl)
-  maybe_complete (Some x) u rest m e = rw (started x u rest m) (rw (a.complete x u rest m e) refl)
+  maybe_complete (Some x) u rest m e = let first = started x u rest m in rw first (rw ((chosen_here (u ++ rest) first).complete x u rest m e) refl)
 
   ended : (ts : List K) → starts p ts ≡ false → Ends p ts
   ended [] h = tt
   ended (c ∷ ts) h = h
 
-  maybe_found : (ts : List K) (o : Outcome K X) → r ts ≡ o → (t : Option X) (left : List K) → mapped Some o ≡ gives t left → Found (maybe l) (maybe_goes p g) ts t left
-  maybe_found ts (gives x mid) e t left h =
-      let f = a.sound ts x mid e in
+  maybe_found : (ts : List K) (o : Outcome K X) → r ts ≡ o → starts p ts ≡ true → (t : Option X) (left : List K) → mapped Some o ≡ gives t left → Found (maybe l) (maybe_goes p g) ts t left
+  maybe_found ts (gives x mid) e s t left h =
+      let f = (chosen_here ts s).sound ts x mid e in
       let found : Found (maybe l) (maybe_goes p g) ts (Some x) mid = record { read = f.read; same = f.same; spells = f.spells; ends = f.ends } in
       let t_is : Some x ≡ t = cc in
       let left_is : mid ≡ left = cc in
       subst (λ (w : List K). Found (maybe l) (maybe_goes p g) ts t w) left_is (subst (λ (y : Option X). Found (maybe l) (maybe_goes p g) ts y mid) t_is found)
-  maybe_found ts (refused n) e t left h = absurd cc
+  maybe_found ts (refused n) e s t left h = absurd cc
 
   maybe_sound : (ts : List K) (q : Bool) → starts p ts ≡ q → (t : Option X) (left : List K) → (if q then mapped Some (r ts) else gives None ts) ≡ gives t left → Found (maybe l) (maybe_goes p g) ts t left
-  maybe_sound ts true s t left h = maybe_found ts (r ts) refl t left h
+  maybe_sound ts true s t left h = maybe_found ts (r ts) refl s t left h
   maybe_sound ts false s t left h =
       let found : Found (maybe l) (maybe_goes p g) ts None ts = record { read = []; same = refl; spells = refl; ends = ended ts s } in
       let t_is : None ≡ t = cc in
@@ -354,7 +359,7 @@ module _ {K X : Type 0} (p : K → Bool) (l : X → List K → Type 0) (r : Read
   unfolding optional
   maybe_refused ts (gives x mid) e s n h = absurd cc
   maybe_refused ts (refused i) e s n h =
-      let f = a.refuses ts i e in
+      let f = (chosen_here ts s).refuses ts i e in
       let i_is : i ≡ n = cc in
       record {
         read = f.read;
@@ -375,7 +380,11 @@ module _ {K X : Type 0} (p : K → Bool) (l : X → List K → Type 0) (r : Read
 
   maybe_on : (t : Option X) (u : List K) (c : K) → maybe l t u → maybe_goes p g t c ≡ true → Viable (maybe l) (u ++ c ∷ [])
   maybe_on None u c m e = let v = begins c e in rw m (Some v.0, v.1, v.2)
-  maybe_on (Some x) u c m e = let v = a.on x u c m e in (Some v.0, v.1, v.2)
+  maybe_on (Some x) u c m e = let v = (chosen_here u (first_of u m)).on x u c m e in (Some v.0, v.1, v.2)
+    where
+      first_of : (u : List K) → l x u → starts p u ≡ true
+      first_of [] m = absurd (some x m)
+      first_of (d ∷ u) m = heads x d u m
 
   pub exact_optional : Exact (maybe l) (optional p r) (maybe_goes p g)
   unfolding optional

@@ -164,6 +164,23 @@ module _ {K X T : Type 0} (l : X → List K → Type 0) (part : Reader K X) (gx 
     full = then_full r;
   }
 
+-- A part that may be empty, and a row behind it that can't continue the part.
+module _ {K X T : Type 0} (l : X → List K → Type 0) (part : Reader K X) (gx : X → K → Bool) (k : X → T → List K → Type 0) (run : X → Reader K T) (g : T → K → Bool) where
+  behind_full : ((x : X) → Row (k x) (run x) g) → (t : T) → along l k t [] → ⊥
+  behind_full rest t (x, (u, v, same, m, n)) = go u v same n
+    where
+      go : (u v : List K) → [] ≡ u ++ v → k x t v → ⊥
+      go [] [] same n = (rest x).full t n
+      go [] (c ∷ v) same n = absurd cc
+      go (c ∷ u) v same n = absurd cc
+
+  pub row_behind : Exact l part gx → Viable l [] → ((x : X) → Row (k x) (run x) g) → ((x : X) (t : T) (c : K) (s : List K) → k x t (c ∷ s) → gx x c ≡ false) → Row (along l k) (part >>= run) g
+  row_behind a some rest apart = record {
+    exact = exact_behind_part l part gx k run g a (λ x. (rest x).exact) (λ x. (rest x).some) (λ x t m. (rest x).full t m) apart;
+    some = (let s = (rest some.0).some in (s.0, some.1 ++ s.1, (some.0, (some.1, s.1, refl, some.2, s.2))));
+    full = behind_full rest;
+  }
+
 -- A part, and a token behind it that ends the row.
 module _ {K X Y T : Type 0} (l : X → List K → Type 0) (part : Reader K X) (gx : X → K → Bool) (show : K → Option Y) (f : X → Y → T) (g : T → K → Bool) where
   pub row_close : Row l part gx → (c₀ : K) (y₀ : Y) → show c₀ ≡ Some y₀ → ((x : X) (c : K) (y : Y) → show c ≡ Some y → gx x c ≡ false) → ((x : X) (y : Y) (c : K) → g (f x y) c ≡ false)

@@ -90,10 +90,10 @@ unfolding meant_by
 step_no_mark c h =
     let s = shows_some (meant_by step_of c) (sym (shows_lined (meant_by step_of) c) ∙ h) in step_kinds c c.kind s.0 refl s.1
 
-the_name : Token
+pub the_name : Token
 the_name = token_of (kinds.Name 0)
 
-name_shows : lined_shown name_shown the_name ≡ Some (the_name.line, 0)
+pub name_shows : lined_shown name_shown the_name ≡ Some (the_name.line, 0)
 unfolding the_name name_shown token_of
 name_shows = lined_shows name_shown (token_of (kinds.Name 0)) 0 refl
 

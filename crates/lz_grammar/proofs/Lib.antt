@@ -1,0 +1,11 @@
+pub mod AnyTypesLemmas
+pub mod ValuesLemmas
+pub mod DeclaratorsLemmas
+pub mod DeclarationsLemmas
+pub mod FormsLemmas
+pub mod StatementsLemmas
+pub mod LoopsOfStatementsLemmas
+pub mod ForLemmas
+pub mod StatementHeightsLemmas
+pub mod ParamsLemmas
+pub mod UniqueLemmas
