@@ -1,6 +1,6 @@
 -- A loop over operators, beside the reader that recurs over them.
-use Rattle.std.proofs.Common.{◌≡◌, ℕ, zero, suc, ◌+◌, ◌-◌, ◌<◌, ◌≤◌, Bool, true, false, List, [], ◌∷◌, Option, Some, None, refl, sym, ap, ◌∙◌, inl, inr, arith, nat_lt}
-use Rattle.std.specs.Prelude.{◌⊎◌, ◌&&◌, if◌then◌else◌}
+use Rattle.std.proofs.Common.{◌≡◌, ℕ, zero, suc, ◌+◌, ◌<◌, ◌≤◌, Bool, true, false, List, [], ◌∷◌, Option, Some, None, refl, ap, ◌∙◌, inl, inr, arith, nat_lt}
+use Rattle.std.specs.Prelude.{◌⊎◌, ◌&&◌}
 use Rattle.lz_tree.specs.declared.token.Token.{Token}
 use Rattle.lz_expr.specs.Reading.{Outcome, gives, refused, Reader, and_then, token, starts, shows, climb}
 use Rattle.lz_expr.specs.Grammar.{shown_at, with_rest}

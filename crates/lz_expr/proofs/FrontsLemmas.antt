@@ -1,13 +1,13 @@
 -- What an exact reader's answer says of the tokens from a place on: where the front ends, and what it spells.
-use Rattle.std.proofs.Common.{◌≡◌, ℕ, zero, suc, ◌+◌, ◌-◌, ◌<◌, ◌≤◌, Bool, true, false, List, [], ◌∷◌, ◌++◌, length, take, drop, refl, sym, ap, subst, ◌∙◌, append_assoc, append-nil, arith, length-append, length-drop, slice_range}
+use Rattle.std.proofs.Common.{◌≡◌, ℕ, zero, suc, ◌+◌, ◌-◌, ◌<◌, ◌≤◌, Bool, List, [], ◌∷◌, ◌++◌, length, take, drop, refl, sym, ap, subst, ◌∙◌, append_assoc, append-nil, arith, length-append, length-drop, slice_range}
 use Rattle.std.proofs.lemmas.List.{take_at, take_rest}
 use Rattle.lz_tree.specs.declared.token.Token.{Token}
 use Rattle.lz_tree.specs.Trees.{Expression}
-use Rattle.lz_tree.specs.WellFormed.{InExpression, level}
+use Rattle.lz_tree.specs.WellFormed.{InExpression}
 use Rattle.lz_expr.specs.Fronts.{Viable, IsFront}
 use Rattle.lz_expr.specs.Reading.{Outcome, gives, refused, Reader}
 use Rattle.lz_expr.specs.Grammar.{expr}
-use Rattle.lz_expr.proofs.ExactLemmas.{Refused, Found, Exact}
+use Rattle.lz_expr.proofs.ExactLemmas.{Refused, Exact}
 use Rattle.lz_expr.proofs.WholeLemmas.{unique, refused_there, refused_front, found_there}
 use Rattle.lz_expr.proofs.GoesLemmas.{below, class_goes}
 use Rattle.lz_expr.proofs.ExpressionsLemmas.{tall}

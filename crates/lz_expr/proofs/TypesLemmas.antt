@@ -10,7 +10,6 @@ use Rattle.lz_tree.specs.declared.token.Punct.{Punct}
 use Rattle.lz_tree.specs.declared.token.Punct.TheVariants as marks
 use Rattle.lz_tree.specs.declared.expression.TypeName.{TypeName}
 use Rattle.lz_tree.specs.declared.expression.TypeName.TheVariants as types
-use Rattle.lz_tree.specs.Languages.{mark_in}
 use Rattle.lz_tree.specs.Spelling.{type_kinds, kinds_of, SpellsType}
 use Rattle.lz_expr.specs.Reading.{shows, ◌>>=◌, token, grown}
 use Rattle.lz_expr.specs.Grammar.{integer_key, key_in, key_meant, signed_by, unsigned_by, with_int, with_long, starred, grow_integer, grow_pointer, grow_by, grow, integer_type}

@@ -14,7 +14,7 @@ use Rattle.lz_base.specs.declared.operator.Unary.{Unary}
 use Rattle.lz_tree.specs.declared.expression.Target.{Target}
 use Rattle.lz_tree.specs.declared.expression.TypeName.{TypeName}
 use Rattle.lz_tree.specs.declared.expression.TypeName.TheVariants as types
-use Rattle.lz_tree.specs.Languages.{is_mark, is_key, mark_shown, key_shown, name_shown, meant_by, mark_in, line_at, same_key}
+use Rattle.lz_tree.specs.Languages.{is_mark, is_key, mark_shown, key_shown, name_shown, meant_by, line_at, same_key}
 use Rattle.lz_tree.specs.Spelling.{sign_of, operator_of, assigning_of, step_of}
 use Rattle.lz_tree.specs.Trees.{Expression, constant, null, text, object, address, paren, unary, cast, binary, choose, assign, step, call, whole, element, Expressions, expressions_of, index_of}
 use Rattle.lz_tree.specs.Height.{expression_height}

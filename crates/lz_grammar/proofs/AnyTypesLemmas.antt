@@ -1,13 +1,11 @@
 -- Types are read exactly, and which tokens begin them.
-use Rattle.std.proofs.Common.{◌≡◌, ℕ, zero, suc, ◌+◌, ◌<◌, ◌≤◌, Bool, true, false, List, [], ◌∷◌, ◌++◌, length, map, Option, Some, None, refl, sym, ap, subst, ◌∙◌, inl, inr, arith}
+use Rattle.std.proofs.Common.{◌≡◌, ℕ, Bool, true, false, List, [], ◌∷◌, ◌++◌, Option, Some, None, refl, ap, subst, ◌∙◌, inl, inr}
 use Rattle.std.specs.Prelude.{◌⊎◌}
 use Rattle.lz_tree.specs.declared.token.Token.{Token}
 use Rattle.lz_tree.specs.declared.token.TokenKind.{TokenKind}
 use Rattle.lz_tree.specs.declared.token.TokenKind.TheVariants as kinds
-use Rattle.lz_tree.specs.declared.token.Form.{Form}
 use Rattle.lz_tree.specs.declared.token.Keyword.{Keyword}
 use Rattle.lz_tree.specs.declared.token.Keyword.TheVariants as keys
-use Rattle.lz_tree.specs.declared.token.Punct.{Punct}
 use Rattle.lz_tree.specs.declared.token.Punct.TheVariants as marks
 use Rattle.lz_tree.specs.declared.expression.TypeName.{TypeName}
 use Rattle.lz_tree.specs.declared.expression.TypeName.TheVariants as types
@@ -17,7 +15,7 @@ use Rattle.lz_expr.specs.Reading.{◌>>=◌, token, shows, grown}
 use Rattle.lz_expr.specs.Grammar.{key_in, key_meant, grow_by, grow}
 use Rattle.lz_expr.proofs.RowsLemmas.{Row, row_of, lined_text, row_lined}
 use Rattle.lz_expr.proofs.GrowLemmas.{Started, Larger}
-use Rattle.lz_expr.proofs.TypesLemmas.{is_integer, type_goes, row_type}
+use Rattle.lz_expr.proofs.TypesLemmas.{type_goes, row_type}
 use Rattle.lz_expr.proofs.TokensLemmas.{the_key, the_kind, line_leads}
 use Rattle.lz_grammar.specs.Grammar.{type_key, begins_type, type_name, lined_type}
 

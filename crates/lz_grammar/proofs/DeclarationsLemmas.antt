@@ -1,31 +1,29 @@
 -- Declarations are read exactly: a type, and declarators up to `;`.
-use Rattle.std.proofs.Common.{◌≡◌, ◌≢◌, ℕ, zero, suc, ◌+◌, ◌-◌, ◌<◌, ◌≤◌, max, Bool, true, false, List, [], ◌∷◌, ◌++◌, length, Option, Some, None, refl, sym, ap, subst, ◌∙◌, inl, inr, append_assoc, append-nil, arith}
-use Rattle.std.specs.Prelude.{if◌then◌else◌, ◌⊎◌, ◌&&◌, ◌||◌}
+use Rattle.std.proofs.Common.{◌≡◌, ◌≢◌, ℕ, ◌≤◌, Bool, true, false, List, [], ◌∷◌, ◌++◌, Option, Some, None, refl, sym, ap, subst, ◌∙◌, append_assoc, arith}
+use Rattle.std.specs.Prelude.{◌||◌}
 use Rattle.std.specs.List.{AllByRecursion}
 use Rattle.lz_tree.specs.declared.token.Token.{Token}
 use Rattle.lz_tree.specs.declared.token.TokenKind.{TokenKind}
 use Rattle.lz_tree.specs.declared.token.TokenKind.TheVariants as kinds
-use Rattle.lz_tree.specs.declared.token.Punct.{Punct}
 use Rattle.lz_tree.specs.declared.token.Punct.TheVariants as marks
 use Rattle.lz_tree.specs.declared.expression.TypeName.{TypeName}
-use Rattle.lz_tree.specs.Languages.{◌⊙◌, showing, Any, From, Mark, NameToken, Further, Listed, is_mark, same_mark, mark_shown, name_shown, name_in, line_at}
-use Rattle.lz_tree.specs.Spelling.{Comma, Semicolon, SpellsType, SpellsDeclarator, SpellsDeclaration}
+use Rattle.lz_tree.specs.Languages.{showing, Further, is_mark, same_mark, mark_shown, name_shown, name_in, line_at}
+use Rattle.lz_tree.specs.Spelling.{Comma, Semicolon, SpellsDeclarator, SpellsDeclaration}
 use Rattle.lz_tree.specs.Trees.{Expression, Initializer, nothing, single, listed, mutex, cond, InitDeclarator, Declaration}
-use Rattle.lz_tree.specs.Height.{greatest, declarator_height, declaration_height}
-use Rattle.lz_tree.specs.WellFormed.{FitsDeclarator, FitsDeclaration, InDeclaration}
-use Rattle.lz_expr.specs.Fronts.{Viable}
-use Rattle.lz_expr.specs.Reading.{Reader, ◌>>=◌, pure, token, starts, shows, until}
+use Rattle.lz_tree.specs.Height.{greatest, declarator_height}
+use Rattle.lz_tree.specs.WellFormed.{FitsDeclarator, InDeclaration}
+use Rattle.lz_expr.specs.Reading.{◌>>=◌, pure, shows}
 use Rattle.lz_expr.specs.Grammar.{mark, expr, grow, grow_by}
-use Rattle.lz_expr.proofs.RowsLemmas.{Row, made, along, row_one, row_last, row_token, row_then, row_of, heads_token, heads_one, heads_made}
+use Rattle.lz_expr.proofs.RowsLemmas.{Row, made, along, row_one, row_last, row_token, row_then, row_of, heads_token, heads_one}
 use Rattle.lz_expr.proofs.ListsLemmas.{list_of, row_list, list_apart}
-use Rattle.lz_expr.proofs.TokensLemmas.{the_mark, the_mark_shows, mark_is, mark_kind_is, line_leads, some_shown, no_text}
+use Rattle.lz_expr.proofs.TokensLemmas.{the_mark, the_mark_shows, mark_is, mark_kind_is, some_shown}
 use Rattle.lz_expr.proofs.GoesLemmas.{below, class_goes, comma_stops, semicolon_stops}
 use Rattle.lz_expr.proofs.ExpressionsLemmas.{first_part}
 use Rattle.lz_expr.proofs.TargetsLemmas.{and_false}
 use Rattle.lz_expr.proofs.TypesLemmas.{type_goes}
-use Rattle.lz_grammar.specs.Grammar.{begins_type, type_name, lined_type, declarator, next_declarator, more_declarators, declaration}
+use Rattle.lz_grammar.specs.Grammar.{begins_type, lined_type, declarator, next_declarator, more_declarators, declaration}
 use Rattle.lz_grammar.proofs.AnyTypesLemmas.{TypeText, row_lined_type, type_some, type_leads, type_heads}
-use Rattle.lz_grammar.proofs.DeclaratorsLemmas.{InDeclarator, declarator_goes, init_goes, length_goes, first_goes, row_declarator}
+use Rattle.lz_grammar.proofs.DeclaratorsLemmas.{InDeclarator, declarator_goes, init_goes, length_goes, row_declarator}
 
 -- the height of the highest of some declarators
 abbrev pub declarators_height : List InitDeclarator → ℕ

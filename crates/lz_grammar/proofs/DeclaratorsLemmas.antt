@@ -1,30 +1,29 @@
 -- Declarators are read exactly: a name, its length and its initializer.
-use Rattle.std.proofs.Common.{◌≡◌, ℕ, zero, suc, ◌+◌, ◌-◌, ◌<◌, ◌≤◌, max, Bool, true, false, List, [], ◌∷◌, ◌++◌, length, Option, Some, None, refl, sym, ap, subst, ◌∙◌, inl, inr, append_assoc, append-nil, arith, nat_lt}
+use Rattle.std.proofs.Common.{◌≡◌, ℕ, suc, ◌-◌, ◌<◌, ◌≤◌, Bool, true, false, List, [], ◌∷◌, ◌++◌, Option, Some, None, refl, sym, ap, subst, ◌∙◌, inl, inr, append_assoc, append-nil, arith, nat_lt}
 use Rattle.std.specs.Prelude.{if◌then◌else◌, ◌⊎◌, ◌&&◌, ◌||◌}
 use Rattle.lz_tree.specs.declared.token.Token.{Token}
 use Rattle.lz_tree.specs.declared.token.TokenKind.{TokenKind}
 use Rattle.lz_tree.specs.declared.token.TokenKind.TheVariants as kinds
 use Rattle.lz_tree.specs.declared.token.Keyword.{Keyword}
 use Rattle.lz_tree.specs.declared.token.Keyword.TheVariants as keys
-use Rattle.lz_tree.specs.declared.token.Punct.{Punct}
 use Rattle.lz_tree.specs.declared.token.Punct.TheVariants as marks
-use Rattle.lz_tree.specs.Languages.{◌⊙◌, showing, Any, From, Mark, Key, NameToken, Text, is_mark, is_key, same_mark, same_key, mark_shown, key_shown, name_shown, line_at}
+use Rattle.lz_tree.specs.Languages.{◌⊙◌, showing, Any, Mark, Key, Text, is_mark, is_key, same_mark, same_key, mark_shown, key_shown, name_shown, line_at}
 use Rattle.lz_tree.specs.Spelling.{SpellsExpression, SpellsList, CloseList, SpellsLength, SpellsInitializer, SpellsDeclarator}
 use Rattle.lz_tree.specs.Trees.{Expression, Expressions, none, and, expressions_of, Initializer, nothing, single, listed, mutex, cond, InitDeclarator}
 use Rattle.lz_tree.specs.Height.{expression_height, highest, optional_height, initializer_height, declarator_height}
-use Rattle.lz_tree.specs.WellFormed.{InExpression, level, FitsExpression, FitsAll, is_empty, FitsLength, FitsInitializer, FitsDeclarator}
+use Rattle.lz_tree.specs.WellFormed.{InExpression, FitsAll, is_empty, FitsLength, FitsInitializer, FitsDeclarator}
 use Rattle.lz_expr.specs.Fronts.{Viable}
 use Rattle.lz_expr.specs.declared.opening.Opening.{Opening}
 use Rattle.lz_expr.specs.declared.opening.Opening.TheVariants as opening
-use Rattle.lz_expr.specs.Reading.{gives, Reader, and_then, ◌>>=◌, pure, token, starts, choice, Ends}
-use Rattle.lz_expr.specs.Grammar.{mark, key, name, lined_shown, expr, opening_of, opening_key}
-use Rattle.lz_expr.proofs.ExactLemmas.{Exact, Found, Refused}
-use Rattle.lz_expr.proofs.RowsLemmas.{Row, made, along, row_one, row_last, row_token, row_close, row_choice, row_of, row_then, heads_token, heads_one, begins_token}
+use Rattle.lz_expr.specs.Reading.{gives, Reader, ◌>>=◌, pure, starts, choice, Ends}
+use Rattle.lz_expr.specs.Grammar.{mark, key, name, lined_shown, expr, opening_of}
+use Rattle.lz_expr.proofs.ExactLemmas.{Exact}
+use Rattle.lz_expr.proofs.RowsLemmas.{Row, made, along, row_one, row_last, row_token, row_close, row_choice, row_of, heads_token, heads_one, begins_token}
 use Rattle.lz_expr.proofs.TailLemmas.{Extended, exact_tail}
-use Rattle.lz_expr.proofs.TokensLemmas.{the_mark, the_mark_shows, the_key, the_key_shows, token_of, the_kind, mark_is, mark_shows, mark_kind_is, is_mark_is, key_is, key_kind_is, is_key_is, lined_to, lined_from, lined_shows, line_leads, some_shown, no_text}
+use Rattle.lz_expr.proofs.TokensLemmas.{the_mark, the_mark_shows, the_key, the_key_shows, mark_is, mark_shows, is_mark_is, key_is, key_kind_is, lined_to, lined_from, line_leads, some_shown, no_text}
 use Rattle.lz_expr.proofs.GoesLemmas.{below, class_goes, close_bracket_stops}
 use Rattle.lz_expr.proofs.ExpressionsLemmas.{tall, level_small, some_text, heads, is_opening, expressions_list, expressions_back, first_part}
-use Rattle.lz_expr.proofs.TargetsLemmas.{lt_true, lt_from, and_first, and_false, the_name, name_shows}
+use Rattle.lz_expr.proofs.TargetsLemmas.{lt_true, lt_from, and_false, the_name, name_shows}
 use Rattle.lz_expr.proofs.UnaryLemmas.{and_second}
 use Rattle.lz_grammar.specs.Grammar.{opens_any, begins_expression, array_length, all_values, listed_values, single_value, word_value, first_value, plain, with_length, with_first, sized, initialized, declarator, declarator_from}
 use Rattle.lz_grammar.proofs.ValuesLemmas.{row_expr, InValues, row_values}

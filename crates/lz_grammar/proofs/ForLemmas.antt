@@ -1,19 +1,18 @@
 -- `for` is read exactly where its parts are.
-use Rattle.std.proofs.Common.{◌≡◌, ℕ, zero, suc, ◌+◌, ◌-◌, ◌<◌, ◌≤◌, max, Bool, true, false, List, [], ◌∷◌, ◌++◌, Option, Some, None, refl, sym, ap, subst, ◌∙◌, inl, inr, append_assoc, append-nil, arith, nat_lt}
-use Rattle.std.specs.Prelude.{◌⊎◌, ◌&&◌, ◌||◌, not, if◌then◌else◌}
+use Rattle.std.proofs.Common.{◌≡◌, ℕ, suc, ◌<◌, ◌≤◌, Bool, true, false, List, [], ◌∷◌, ◌++◌, Option, refl, sym, ap, subst, ◌∙◌, inl, inr, append_assoc, arith, nat_lt}
+use Rattle.std.specs.Prelude.{◌⊎◌, ◌&&◌}
 use Rattle.lz_tree.specs.declared.token.Token.{Token}
 use Rattle.lz_tree.specs.declared.token.Keyword.TheVariants as keys
-use Rattle.lz_tree.specs.declared.token.Punct.{Punct}
 use Rattle.lz_tree.specs.declared.token.Punct.TheVariants as marks
 use Rattle.lz_tree.specs.Languages.{◌⊙◌, showing, Any, Mark, mark_shown, key_shown}
-use Rattle.lz_tree.specs.Spelling.{Semicolon, CloseParen, SpellsOptional, SpellsStatement}
-use Rattle.lz_tree.specs.Trees.{Expression, Declaration, Statement, empty, eval, declare, for}
+use Rattle.lz_tree.specs.Spelling.{SpellsOptional, SpellsStatement}
+use Rattle.lz_tree.specs.Trees.{Expression, Statement, empty, eval, declare, for}
 use Rattle.lz_tree.specs.Height.{expression_height, optional_height, statement_height}
-use Rattle.lz_tree.specs.WellFormed.{InExpression, InStatement, FitsExpression, FitsOptional, FitsStatement, is_start, is_open}
-use Rattle.lz_expr.specs.Reading.{Reader, ◌>>=◌, pure, token, starts, choice}
-use Rattle.lz_expr.specs.Grammar.{mark, key, expr}
+use Rattle.lz_tree.specs.WellFormed.{InExpression, InStatement, FitsExpression, FitsOptional, FitsStatement, is_start}
+use Rattle.lz_expr.specs.Reading.{Reader, ◌>>=◌, pure, choice}
+use Rattle.lz_expr.specs.Grammar.{mark, expr}
 use Rattle.lz_expr.proofs.RowsLemmas.{Row, made, along, row_one, row_last, row_token, row_then, row_choice, row_of, heads_made}
-use Rattle.lz_expr.proofs.TokensLemmas.{the_mark, the_mark_shows, the_key, the_key_shows, some_shown, no_text}
+use Rattle.lz_expr.proofs.TokensLemmas.{the_mark, the_mark_shows, the_key, the_key_shows, no_text}
 use Rattle.lz_expr.proofs.GoesLemmas.{below, class_goes, semicolon_stops}
 use Rattle.lz_expr.proofs.ExpressionsLemmas.{tall, level_small, some_text}
 use Rattle.lz_expr.proofs.TargetsLemmas.{lt_true, lt_from}

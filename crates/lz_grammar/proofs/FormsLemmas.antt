@@ -1,6 +1,6 @@
 -- Statements: their forms, what each begins with, and with what they go on.
-use Rattle.std.proofs.Common.{◌≡◌, ℕ, zero, suc, ◌+◌, ◌<◌, ◌≤◌, Bool, true, false, List, [], ◌∷◌, ◌++◌, Option, Some, None, refl, sym, ap, subst, ◌∙◌, inl, inr, arith}
-use Rattle.std.specs.Prelude.{◌⊎◌, ◌&&◌, if◌then◌else◌}
+use Rattle.std.proofs.Common.{◌≡◌, ℕ, ◌<◌, ◌≤◌, Bool, true, false, List, [], ◌∷◌, Some, refl, sym, ap, ◌∙◌, inl, inr, arith}
+use Rattle.std.specs.Prelude.{◌⊎◌, ◌&&◌}
 use Rattle.lz_tree.specs.declared.token.Token.{Token}
 use Rattle.lz_tree.specs.declared.token.TokenKind.{TokenKind}
 use Rattle.lz_tree.specs.declared.token.TokenKind.TheVariants as kinds
@@ -8,11 +8,10 @@ use Rattle.lz_tree.specs.declared.token.Keyword.{Keyword}
 use Rattle.lz_tree.specs.declared.token.Keyword.TheVariants as keys
 use Rattle.lz_tree.specs.declared.token.Punct.{Punct}
 use Rattle.lz_tree.specs.declared.token.Punct.TheVariants as marks
-use Rattle.lz_tree.specs.declared.expression.TypeName.{TypeName}
 use Rattle.lz_tree.specs.Languages.{◌⊙◌, showing, is_mark, is_key, is_mark_kind, is_key_kind, same_mark, same_key, mark_shown, key_shown, name_shown}
 use Rattle.lz_tree.specs.Spelling.{SpellsStatement}
-use Rattle.lz_tree.specs.Trees.{Expression, Statement, empty, eval, block, declare, when, while, do_while, for, break, continue, return, label}
-use Rattle.lz_tree.specs.WellFormed.{InStatement, is_open}
+use Rattle.lz_tree.specs.Trees.{Statement, empty, eval, block, declare, when, while, do_while, for, break, continue, return, label}
+use Rattle.lz_tree.specs.WellFormed.{is_open}
 use Rattle.lz_expr.specs.Reading.{shows}
 use Rattle.lz_expr.specs.Grammar.{key_in, key_meant, opening_of, opening_key}
 use Rattle.lz_expr.proofs.RowsLemmas.{heads_one}

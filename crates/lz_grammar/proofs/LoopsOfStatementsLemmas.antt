@@ -1,34 +1,27 @@
 -- Loops, `if`, expressions and labels are read exactly where their parts are.
-use Rattle.std.proofs.Common.{◌≡◌, ℕ, zero, suc, ◌+◌, ◌-◌, ◌<◌, ◌≤◌, max, Bool, true, false, List, [], ◌∷◌, ◌++◌, length, Option, Some, None, refl, sym, ap, subst, ◌∙◌, inl, inr, append_assoc, append-nil, arith, nat_lt}
+use Rattle.std.proofs.Common.{◌≡◌, ℕ, suc, ◌<◌, ◌≤◌, Bool, true, false, List, [], ◌∷◌, ◌++◌, Some, refl, sym, ap, subst, ◌∙◌, inl, inr, append-nil, arith}
 use Rattle.std.specs.Prelude.{◌⊎◌, ◌&&◌, ◌||◌, not, if◌then◌else◌}
 use Rattle.lz_tree.specs.declared.token.Token.{Token}
-use Rattle.lz_tree.specs.declared.token.TokenKind.{TokenKind}
-use Rattle.lz_tree.specs.declared.token.TokenKind.TheVariants as kinds
-use Rattle.lz_tree.specs.declared.token.Keyword.{Keyword}
 use Rattle.lz_tree.specs.declared.token.Keyword.TheVariants as keys
-use Rattle.lz_tree.specs.declared.token.Punct.{Punct}
 use Rattle.lz_tree.specs.declared.token.Punct.TheVariants as marks
-use Rattle.lz_tree.specs.Languages.{◌⊙◌, showing, Any, From, Mark, Key, NameToken, is_mark, is_key, same_mark, mark_shown, key_shown, name_shown, line_at}
-use Rattle.lz_tree.specs.Spelling.{Semicolon, CloseParen, SpellsExpression, SpellsOptional, SpellsStatement, SpellsBranch, SpellsParts}
-use Rattle.lz_tree.specs.Trees.{Expression, object, Index, whole, element, Declaration, Statement, empty, eval, block, declare, when, while, do_while, for, break, continue, return, label, Branch, absent, branch}
-use Rattle.lz_tree.specs.Height.{expression_height, optional_height, statement_height, branch_height}
-use Rattle.lz_tree.specs.WellFormed.{InExpression, InDeclaration, InStatement, level, FitsExpression, FitsOptional, FitsStatement, FitsBranch, is_open, is_open_branch, is_start}
-use Rattle.lz_expr.specs.Fronts.{Viable}
-use Rattle.lz_expr.specs.Reading.{Reader, gives, ◌>>=◌, pure, token, starts, choice, Ends}
+use Rattle.lz_tree.specs.Languages.{showing, is_mark, is_key, same_mark, mark_shown, key_shown, name_shown, line_at}
+use Rattle.lz_tree.specs.Spelling.{SpellsExpression, SpellsStatement}
+use Rattle.lz_tree.specs.Trees.{Expression, object, whole, element, Statement, eval, when, while, do_while, label, Branch, absent, branch}
+use Rattle.lz_tree.specs.Height.{expression_height, statement_height}
+use Rattle.lz_tree.specs.WellFormed.{InExpression, InStatement, FitsExpression, FitsStatement, is_open}
+use Rattle.lz_expr.specs.Reading.{Reader, gives, ◌>>=◌, pure, starts, choice, Ends}
 use Rattle.lz_expr.specs.Grammar.{mark, key, begins_key, is_whole, expr}
 use Rattle.lz_expr.proofs.ExactLemmas.{Exact}
-use Rattle.lz_expr.proofs.RowsLemmas.{Row, made, along, row_one, row_last, row_token, row_part, row_then, row_choice, row_of, exact_same, agree, heads_token, heads_one, heads_made, begins_token}
+use Rattle.lz_expr.proofs.RowsLemmas.{Row, made, along, row_one, row_last, row_token, row_part, row_then, row_choice, row_of, exact_same, agree, heads_token, heads_made, begins_token}
 use Rattle.lz_expr.proofs.TailLemmas.{Extended, exact_tail}
-use Rattle.lz_expr.proofs.TokensLemmas.{the_mark, the_mark_shows, the_key, the_key_shows, mark_is, mark_shows, mark_kind_is, is_mark_is, key_is, key_shows, key_kind_is, line_leads, some_shown, no_text}
+use Rattle.lz_expr.proofs.TokensLemmas.{the_mark, the_mark_shows, the_key, the_key_shows, mark_is, mark_kind_is, key_is, key_shows, some_shown, no_text}
 use Rattle.lz_expr.proofs.GoesLemmas.{below, class_goes, close_paren_stops, semicolon_stops, colon_stops}
-use Rattle.lz_expr.proofs.ExpressionsLemmas.{tall, level_small, some_text, first_part}
-use Rattle.lz_expr.proofs.TargetsLemmas.{lt_true, lt_from, and_first, and_false}
+use Rattle.lz_expr.proofs.ExpressionsLemmas.{level_small}
 use Rattle.lz_expr.proofs.UnaryLemmas.{and_second}
-use Rattle.lz_grammar.specs.Grammar.{begins_expression, begins_type, semicolon, evaluated, declared, otherwise, tested, repeated, repeated_behind, start, counted, maybe_then, labelled, label_or_end, expression_first}
+use Rattle.lz_grammar.specs.Grammar.{evaluated, otherwise, tested, repeated, repeated_behind, labelled, label_or_end, expression_first}
 use Rattle.lz_grammar.proofs.ValuesLemmas.{row_expr}
-use Rattle.lz_grammar.proofs.DeclaratorsLemmas.{expression_begins}
-use Rattle.lz_grammar.proofs.FormsLemmas.{statement_goes, form, while_no_else, and_none, eval_first, declare_first, later_no_expression, later_no_type, some_statement}
-use Rattle.lz_grammar.proofs.StatementsLemmas.{Of, tall_statement, MaybeThen, until_semicolon, until_close, then_parts, parts_then, row_declare, row_empty}
+use Rattle.lz_grammar.proofs.FormsLemmas.{statement_goes, form, while_no_else, and_none}
+use Rattle.lz_grammar.proofs.StatementsLemmas.{Of}
 
 semicolon_colon : (c : Token) (x : ℕ) → mark_shown marks.Semicolon c ≡ Some x → is_mark marks.Colon c ≡ false
 unfolding is_mark same_mark

@@ -1,24 +1,23 @@
 -- Parameters are read exactly.
-use Rattle.std.proofs.Common.{◌≡◌, ℕ, zero, suc, ◌+◌, ◌<◌, ◌≤◌, Bool, true, false, List, [], ◌∷◌, ◌++◌, Option, Some, None, refl, sym, ap, subst, ◌∙◌, inl, inr, append_assoc, append-nil, arith}
-use Rattle.std.specs.Prelude.{◌⊎◌, ◌&&◌, ◌||◌, if◌then◌else◌}
+use Rattle.std.proofs.Common.{◌≡◌, ℕ, Bool, true, false, List, [], ◌∷◌, ◌++◌, Option, Some, None, refl, sym, ap, subst, ◌∙◌, inl, inr, append_assoc, append-nil}
+use Rattle.std.specs.Prelude.{◌⊎◌, ◌&&◌, ◌||◌}
 use Rattle.lz_tree.specs.declared.token.Token.{Token}
 use Rattle.lz_tree.specs.declared.token.TokenKind.{TokenKind}
 use Rattle.lz_tree.specs.declared.token.TokenKind.TheVariants as kinds
 use Rattle.lz_tree.specs.declared.token.Keyword.TheVariants as keys
-use Rattle.lz_tree.specs.declared.token.Punct.{Punct}
 use Rattle.lz_tree.specs.declared.token.Punct.TheVariants as marks
 use Rattle.lz_tree.specs.declared.expression.TypeName.{TypeName}
 use Rattle.lz_tree.specs.declared.expression.TypeName.TheVariants as types
 use Rattle.lz_tree.specs.declared.program.Param.{Param}
-use Rattle.lz_tree.specs.Languages.{◌⊙◌, showing, Any, From, Mark, Key, NameToken, Further, Listed, is_mark, same_mark, mark_shown, key_shown, name_shown, name_in, line_at}
-use Rattle.lz_tree.specs.Spelling.{Comma, CloseParen, kinds_of, SpellsType, SpellsParamName, SpellsParam, SpellsVoid, SpellsParams}
+use Rattle.lz_tree.specs.Languages.{showing, Any, Key, Further, Listed, is_mark, same_mark, mark_shown, name_shown, name_in, line_at}
+use Rattle.lz_tree.specs.Spelling.{Comma, CloseParen, kinds_of, SpellsType, SpellsParam, SpellsParams}
 use Rattle.lz_tree.specs.WellFormed.{fits_params}
-use Rattle.lz_expr.specs.Reading.{Reader, gives, ◌>>=◌, pure, token, starts, shows, choice, until}
+use Rattle.lz_expr.specs.Reading.{◌>>=◌, pure, shows, choice}
 use Rattle.lz_expr.specs.Grammar.{mark, name, lined_shown, opening_of, key_in, key_meant, grow, grow_by}
-use Rattle.lz_expr.proofs.RowsLemmas.{Row, made, along, row_one, row_last, row_token, row_then, row_choice, row_of, row_map, heads_token, heads_one, heads_made, begins_made}
+use Rattle.lz_expr.proofs.RowsLemmas.{Row, made, along, row_one, row_last, row_token, row_then, row_choice, row_map, heads_token, heads_one, heads_made, begins_made}
 use Rattle.lz_expr.proofs.TailLemmas.{Extended, row_tail}
 use Rattle.lz_expr.proofs.ListsLemmas.{list_of, row_list, list_apart}
-use Rattle.lz_expr.proofs.TokensLemmas.{the_mark, the_mark_shows, mark_is, mark_kind_is, key_kind_is, key_shows, is_key_of, lined_is, lined_to, lined_from, lined_shows, line_leads, some_shown, no_text}
+use Rattle.lz_expr.proofs.TokensLemmas.{the_mark, the_mark_shows, mark_is, mark_kind_is, key_kind_is, key_shows, is_key_of, lined_is, lined_to, lined_from, lined_shows, no_text}
 use Rattle.lz_expr.proofs.ExpressionsLemmas.{first_part, name_opens}
 use Rattle.lz_expr.proofs.TargetsLemmas.{the_name, name_shows}
 use Rattle.lz_expr.proofs.TypesLemmas.{type_goes}

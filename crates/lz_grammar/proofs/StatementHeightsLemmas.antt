@@ -1,24 +1,21 @@
 -- Statements are read exactly, up to every height.
-use Rattle.std.proofs.Common.{◌≡◌, ℕ, zero, suc, ◌+◌, ◌<◌, ◌≤◌, Bool, true, false, List, [], ◌∷◌, ◌++◌, Option, Some, None, refl, sym, ap, subst, ◌∙◌, inl, inr, arith, nat_lt}
-use Rattle.std.specs.Prelude.{◌⊎◌, ◌&&◌, if◌then◌else◌}
+use Rattle.std.proofs.Common.{◌≡◌, ℕ, zero, suc, ◌<◌, ◌≤◌, Bool, true, false, List, [], ◌∷◌, refl, inl, inr, arith, nat_lt}
+use Rattle.std.specs.Prelude.{◌⊎◌, ◌&&◌}
 use Rattle.lz_tree.specs.declared.token.Token.{Token}
-use Rattle.lz_tree.specs.declared.token.TokenKind.TheVariants as kinds
-use Rattle.lz_tree.specs.declared.token.Keyword.{Keyword}
 use Rattle.lz_tree.specs.declared.token.Keyword.TheVariants as keys
 use Rattle.lz_tree.specs.declared.token.Punct.TheVariants as marks
 use Rattle.lz_tree.specs.Languages.{is_mark, is_key}
 use Rattle.lz_tree.specs.Spelling.{SpellsStatement}
-use Rattle.lz_tree.specs.Trees.{Expression, Statement, empty, eval, block, declare, when, while, do_while, for, break, continue, return, label, Branch}
-use Rattle.lz_tree.specs.Height.{statement_height}
+use Rattle.lz_tree.specs.Trees.{Statement, empty, eval, block, when, while, do_while, for, break, continue, return, label}
 use Rattle.lz_tree.specs.WellFormed.{InStatement}
-use Rattle.lz_expr.specs.Reading.{Reader, starts, choice}
+use Rattle.lz_expr.specs.Reading.{Reader, choice}
 use Rattle.lz_expr.proofs.RowsLemmas.{Row, row_choice, row_of}
 use Rattle.lz_expr.proofs.TokensLemmas.{is_key_of, is_mark_of}
 use Rattle.lz_expr.proofs.ExpressionsLemmas.{tall}
 use Rattle.lz_expr.proofs.TargetsLemmas.{lt_true, lt_from}
 use Rattle.lz_expr.proofs.UnaryLemmas.{and_second}
 use Rattle.lz_grammar.specs.Grammar.{begins_expression, begins_type, semicolon, declared, blocked, tested, repeated, repeated_behind, counted, broken, continued, returned, expression_first, by_first, stmt}
-use Rattle.lz_grammar.proofs.FormsLemmas.{statement_goes, form, first_kind, kind_first, eval_first, declare_first, later_no_expression, later_no_type, later_no_openbrace, later_no_if, later_no_while, later_no_do, later_no_for, later_no_break, later_no_continue, later_no_return, some_statement}
+use Rattle.lz_grammar.proofs.FormsLemmas.{statement_goes, form, kind_first, eval_first, declare_first, later_no_expression, later_no_type, later_no_openbrace, later_no_if, later_no_while, later_no_do, later_no_for, later_no_break, later_no_continue, later_no_return, some_statement}
 use Rattle.lz_grammar.proofs.StatementsLemmas.{Of, tall_statement, row_empty, row_break, row_continue, row_return, row_declare, row_block}
 use Rattle.lz_grammar.proofs.LoopsOfStatementsLemmas.{row_while, row_do, row_if, row_expression_first}
 use Rattle.lz_grammar.proofs.ForLemmas.{row_for}

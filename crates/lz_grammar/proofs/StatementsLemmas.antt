@@ -1,35 +1,30 @@
 -- Each form of statement is read exactly where its parts are.
-use Rattle.std.proofs.Common.{◌≡◌, ℕ, zero, suc, ◌+◌, ◌-◌, ◌<◌, ◌≤◌, max, Bool, true, false, List, [], ◌∷◌, ◌++◌, length, Option, Some, None, refl, sym, ap, subst, ◌∙◌, inl, inr, append_assoc, append-nil, arith, nat_lt}
-use Rattle.std.specs.Prelude.{◌⊎◌, ◌&&◌, ◌||◌, not, if◌then◌else◌}
+use Rattle.std.proofs.Common.{◌≡◌, ℕ, suc, ◌<◌, ◌≤◌, Bool, true, false, List, [], ◌∷◌, ◌++◌, length, Option, Some, None, refl, sym, ap, subst, ◌∙◌, inl, inr, arith, nat_lt}
+use Rattle.std.specs.Prelude.{◌⊎◌, ◌&&◌, not, if◌then◌else◌}
 use Rattle.lz_tree.specs.declared.token.Token.{Token}
-use Rattle.lz_tree.specs.declared.token.TokenKind.{TokenKind}
 use Rattle.lz_tree.specs.declared.token.TokenKind.TheVariants as kinds
 use Rattle.lz_tree.specs.declared.token.Keyword.{Keyword}
 use Rattle.lz_tree.specs.declared.token.Keyword.TheVariants as keys
 use Rattle.lz_tree.specs.declared.token.Punct.{Punct}
 use Rattle.lz_tree.specs.declared.token.Punct.TheVariants as marks
-use Rattle.lz_tree.specs.Languages.{◌⊙◌, showing, Any, From, Mark, Key, NameToken, Nothing, is_mark, is_key, mark_shown, key_shown, name_shown, line_at}
-use Rattle.lz_tree.specs.Spelling.{Semicolon, CloseParen, SpellsExpression, SpellsOptional, SpellsStatement, SpellsBranch, SpellsParts}
-use Rattle.lz_tree.specs.Trees.{Expression, object, whole, Declaration, Statement, empty, eval, block, declare, when, while, do_while, for, break, continue, return, label, Branch, absent, branch, Statements, nil, cons, statements_of}
-use Rattle.lz_tree.specs.Height.{expression_height, optional_height, statement_height, branch_height, parts_height}
-use Rattle.lz_tree.specs.WellFormed.{InExpression, InDeclaration, InStatement, level, FitsExpression, FitsOptional, FitsStatement, FitsBranch, FitsParts, is_open, is_start}
-use Rattle.lz_expr.specs.Fronts.{Viable}
-use Rattle.lz_expr.specs.Reading.{Reader, gives, ◌>>=◌, pure, token, starts, choice, until, optional, Ends}
-use Rattle.lz_expr.specs.Grammar.{mark, key, begins_key, is_whole, expr}
-use Rattle.lz_expr.proofs.ExactLemmas.{Exact}
-use Rattle.lz_expr.proofs.RowsLemmas.{Row, made, along, row_one, row_last, row_token, row_part, row_then, row_close, row_behind, row_choice, row_of, row_same, exact_same, agree, heads_token, heads_one, heads_made, begins_token}
-use Rattle.lz_expr.proofs.TailLemmas.{Extended, exact_tail, row_tail}
+use Rattle.lz_tree.specs.Languages.{◌⊙◌, showing, Any, Mark, is_mark, mark_shown, key_shown}
+use Rattle.lz_tree.specs.Spelling.{SpellsOptional, SpellsStatement, SpellsParts}
+use Rattle.lz_tree.specs.Trees.{Expression, Statement, empty, eval, block, declare, break, continue, return, Statements, nil, cons, statements_of}
+use Rattle.lz_tree.specs.Height.{optional_height, statement_height, parts_height}
+use Rattle.lz_tree.specs.WellFormed.{InExpression, InDeclaration, InStatement, FitsOptional, FitsParts, is_open}
+use Rattle.lz_expr.specs.Reading.{Reader, ◌>>=◌, pure, choice, until}
+use Rattle.lz_expr.specs.Grammar.{mark, key, expr}
+use Rattle.lz_expr.proofs.RowsLemmas.{Row, made, along, row_one, row_last, row_token, row_close, row_choice, row_of, heads_one, heads_made}
 use Rattle.lz_expr.proofs.ListsLemmas.{list_of, row_list}
-use Rattle.lz_expr.proofs.TokensLemmas.{the_mark, the_mark_shows, the_key, the_key_shows, mark_is, mark_shows, mark_kind_is, is_mark_is, key_is, key_shows, key_kind_is, line_leads, lined_to, some_shown, no_text}
-use Rattle.lz_expr.proofs.GoesLemmas.{below, class_goes, close_paren_stops, semicolon_stops, colon_stops}
+use Rattle.lz_expr.proofs.TokensLemmas.{the_mark, the_mark_shows, the_key, the_key_shows, mark_is, is_mark_is, no_text}
+use Rattle.lz_expr.proofs.GoesLemmas.{below, class_goes, close_paren_stops, semicolon_stops}
 use Rattle.lz_expr.proofs.ExpressionsLemmas.{tall, level_small, some_text, first_part}
 use Rattle.lz_expr.proofs.TargetsLemmas.{lt_true, lt_from, and_first, and_false}
-use Rattle.lz_expr.proofs.UnaryLemmas.{and_second}
-use Rattle.lz_grammar.specs.Grammar.{begins_expression, semicolon, evaluated, declared, declaration, parts, blocked, otherwise, tested, repeated, repeated_behind, maybe_then, broken, continued, returned, labelled, label_or_end, expression_first}
+use Rattle.lz_grammar.specs.Grammar.{begins_expression, semicolon, declared, declaration, parts, blocked, maybe_then, broken, continued, returned}
 use Rattle.lz_grammar.proofs.ValuesLemmas.{row_expr}
 use Rattle.lz_grammar.proofs.DeclaratorsLemmas.{expression_begins, not_begins}
 use Rattle.lz_grammar.proofs.DeclarationsLemmas.{row_declaration}
-use Rattle.lz_grammar.proofs.FormsLemmas.{statement_goes, form, no_else, no_close, while_no_else, mark_no_else, and_none, some_statement}
+use Rattle.lz_grammar.proofs.FormsLemmas.{statement_goes, form, no_else, no_close, mark_no_else, and_none}
 
 -- a statement of a form, whose parts have at most the height
 abbrev pub Of : ℕ → ℕ → Statement → List Token → Type 0

@@ -1,5 +1,5 @@
 -- What exactness says of two trees of the same tokens.
-use Rattle.std.proofs.Common.{◌≡◌, ℕ, zero, suc, ◌<◌, ◌≤◌, List, false, arith}
+use Rattle.std.proofs.Common.{◌≡◌, ℕ, zero, suc, List, false, arith}
 use Rattle.lz_tree.specs.declared.token.Token.{Token}
 use Rattle.lz_tree.specs.Trees.{Declaration, Statement}
 use Rattle.lz_tree.specs.WellFormed.{InDeclaration, InStatement}

@@ -1,17 +1,14 @@
 -- A list of initializers is read exactly, with a comma behind its last value or without.
-use Rattle.std.proofs.Common.{◌≡◌, ℕ, zero, suc, ◌+◌, ◌-◌, ◌<◌, ◌≤◌, max, Bool, true, false, List, [], ◌∷◌, ◌++◌, length, Option, Some, None, refl, sym, ap, subst, ◌∙◌, inl, inr, append_assoc, append-nil, arith, length-append, nat_lt}
+use Rattle.std.proofs.Common.{◌≡◌, ℕ, zero, suc, ◌+◌, ◌-◌, ◌<◌, ◌≤◌, Bool, true, false, List, [], ◌∷◌, ◌++◌, length, Option, Some, None, refl, ap, subst, ◌∙◌, inl, inr, arith, length-append, nat_lt}
 use Rattle.std.specs.Prelude.{if◌then◌else◌, ◌⊎◌, ◌&&◌, not}
 use Rattle.lz_tree.specs.declared.token.Token.{Token}
 use Rattle.lz_tree.specs.declared.token.TokenKind.{TokenKind}
-use Rattle.lz_tree.specs.declared.token.TokenKind.TheVariants as kinds
-use Rattle.lz_tree.specs.declared.token.Punct.{Punct}
 use Rattle.lz_tree.specs.declared.token.Punct.TheVariants as marks
-use Rattle.lz_tree.specs.Languages.{◌⊙◌, showing, Any, Mark, is_mark, same_mark, mark_shown}
-use Rattle.lz_tree.specs.Spelling.{SpellsExpression, SpellsList, SpellsFurther, CloseList, Comma}
-use Rattle.lz_tree.specs.Trees.{Expression, Expressions, none, and, expressions_of}
-use Rattle.lz_tree.specs.Height.{expression_height, highest}
+use Rattle.lz_tree.specs.Languages.{showing, is_mark, same_mark, mark_shown}
+use Rattle.lz_tree.specs.Spelling.{SpellsList, SpellsFurther, CloseList}
+use Rattle.lz_tree.specs.Trees.{Expression, expressions_of}
+use Rattle.lz_tree.specs.Height.{highest}
 use Rattle.lz_tree.specs.WellFormed.{InExpression, FitsAll, is_empty}
-use Rattle.lz_expr.specs.Fronts.{Viable}
 use Rattle.lz_expr.specs.Reading.{Outcome, gives, refused, Reader, and_then, ◌>>=◌, pure, shown, token, starts, choice}
 use Rattle.lz_expr.specs.Grammar.{mark, expr, opening_of}
 use Rattle.lz_expr.proofs.ExactLemmas.{Found}
@@ -19,7 +16,7 @@ use Rattle.lz_expr.proofs.RowsLemmas.{Row, made, along, row_one, row_last, row_t
 use Rattle.lz_expr.proofs.TurnsLemmas.{row_turns}
 use Rattle.lz_expr.proofs.TokensLemmas.{the_mark, the_mark_shows, mark_is, mark_kind_is, is_mark_is, no_text}
 use Rattle.lz_expr.proofs.GoesLemmas.{below, class_goes, comma_stops, close_brace_stops}
-use Rattle.lz_expr.proofs.ExpressionsLemmas.{tall, level_small, some_text, heads, is_opening, first_part}
+use Rattle.lz_expr.proofs.ExpressionsLemmas.{level_small, some_text, heads, is_opening, first_part}
 use Rattle.lz_expr.proofs.TargetsLemmas.{lt_true, lt_from, and_first, and_false}
 use Rattle.lz_expr.proofs.HeightsLemmas.{row_expression}
 use Rattle.lz_grammar.specs.Grammar.{values, all_values}

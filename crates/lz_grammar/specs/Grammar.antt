@@ -1,6 +1,6 @@
 -- Inner: reading declarations, statements and external declarations from the left, up to a height (C99 6.7 to 6.9).
-use Rattle.std.specs.Prelude.{◌≡◌, ℕ, zero, suc, ◌+◌, ◌-◌, max, Bool, true, false, ◌&&◌, ◌||◌, not, nat_lt, List, [], ◌∷◌, ◌++◌, length, Option, Some, None, is_some, if◌then◌else◌}
-use Rattle.lz_expr.specs.Reading.{Outcome, gives, refused, Reader, and_then, ◌>>=◌, pure, refuse, token, starts, shows, until, many, grown, optional}
+use Rattle.std.specs.Prelude.{ℕ, zero, suc, ◌-◌, Bool, true, false, ◌&&◌, not, nat_lt, List, [], ◌∷◌, length, Option, Some, None, if◌then◌else◌}
+use Rattle.lz_expr.specs.Reading.{gives, Reader, and_then, ◌>>=◌, pure, refuse, token, starts, shows, until, grown}
 use Rattle.lz_expr.specs.declared.opening.Opening.{Opening}
 use Rattle.lz_expr.specs.declared.opening.Opening.TheVariants as opening
 use Rattle.lz_expr.specs.Grammar.{mark, key, name, begins, begins_key, key_meant, grow, is_whole, expr, opening_of}
@@ -12,10 +12,8 @@ use Rattle.lz_tree.specs.declared.token.Punct.TheVariants as marks
 use Rattle.lz_tree.specs.declared.expression.TypeName.{TypeName}
 use Rattle.lz_tree.specs.declared.expression.TypeName.TheVariants as types
 use Rattle.lz_tree.specs.declared.program.Param.{Param}
-use Rattle.lz_tree.specs.declared.program.Lead.{Lead}
-use Rattle.lz_tree.specs.declared.program.Lead.TheVariants as leads
 use Rattle.lz_tree.specs.Languages.{is_mark, is_key, line_at}
-use Rattle.lz_tree.specs.Trees.{Expression, object, whole, expressions_of, Initializer, nothing, single, listed, mutex, cond, InitDeclarator, Declaration, Statement, empty, eval, block, declare, when, while, do_while, for, break, continue, return, label, Branch, absent, branch, statements_of, ExternalDeclaration, objects, prototype, function}
+use Rattle.lz_tree.specs.Trees.{Expression, object, expressions_of, Initializer, nothing, single, listed, mutex, cond, InitDeclarator, Declaration, Statement, empty, eval, block, declare, when, while, do_while, for, break, continue, return, label, absent, branch, statements_of}
 
 -- ---- what begins an expression or a type
 

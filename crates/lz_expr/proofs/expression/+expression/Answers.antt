@@ -1,11 +1,11 @@
-use Rattle.std.proofs.Common.{◌≡◌, ◌<◌, ◌≤◌, ◌+◌, ◌-◌, ℕ, suc, Some, length, map, max, refl, sym, ◌∙◌, ap, arith, inl, inr}
+use Rattle.std.proofs.Common.{◌≡◌, ◌<◌, ◌+◌, ◌-◌, ℕ, suc, length, map, refl, sym, ◌∙◌, ap, arith, inl, inr}
 use Rattle.std.proofs.lemmas.List.{map-append}
 use Rattle.std.proofs.lemmas.Result.{err_from_is_err_and}
 use Rattle.lz_tree.specs.declared.token.Punct.TheVariants as marks
 use Rattle.lz_tree.specs.Languages.{is_mark}
-use Rattle.lz_tree.specs.Trees.{expression, expressions_of, binary}
-use Rattle.lz_tree.specs.Height.{expression_height, highest}
-use Rattle.lz_expr.specs.Grammar.{classes, expr, mark, next_argument, more_arguments, operator_shown, shown_at}
+use Rattle.lz_tree.specs.Trees.{expression, binary}
+use Rattle.lz_tree.specs.Height.{expression_height}
+use Rattle.lz_expr.specs.Grammar.{classes, expr, mark, next_argument, operator_shown, shown_at}
 use Rattle.lz_expr.proofs.LoopsLemmas.{until_more, until_fails, until_ends, fails, highest_more}
 use Rattle.lz_expr.proofs.ClimbingLemmas.{taken, not_taken, over}
 use Rattle.lz_expr.proofs.expression.+expression.Goals as goal

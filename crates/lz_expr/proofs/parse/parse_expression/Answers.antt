@@ -1,8 +1,7 @@
-use Rattle.std.proofs.Common.{◌≡◌, ◌≤◌, ◌-◌, ℕ, List, length, slice_range, ap, subst, sym, ◌∙◌, arith}
-use Rattle.lz_tree.specs.declared.token.Token.{Token}
-use Rattle.lz_tree.specs.Trees.{Expression, expression}
+use Rattle.std.proofs.Common.{◌-◌, ℕ, length, slice_range, subst, sym}
+use Rattle.lz_tree.specs.Trees.{expression}
 use Rattle.lz_tree.specs.WellFormed.{InExpression}
-use Rattle.lz_expr.specs.Fronts.{IsFront, class_of, line_of}
+use Rattle.lz_expr.specs.Fronts.{IsFront}
 use Rattle.lz_expr.specs.Reading.{gives, refused}
 use Rattle.lz_expr.proofs.FrontsLemmas.{read_rest, expression_found, expression_refused}
 use Rattle.lz_expr.proofs.parse.parse_expression.Goals as goal
