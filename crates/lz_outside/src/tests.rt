@@ -44,24 +44,42 @@ fn folder_of(
 #[test]
 fn reads_from_memory(rt: HostRuntime) -> Result<(), Fail> {
     let cases = [
-        ("a.c", 100, NEVER, None),
-        ("a.c", 9, NEVER, None),
-        ("a.c", 8, NEVER, Some(ReadError::TooLong)),
-        ("b.c", 100, NEVER, Some(ReadError::Fault)),
-        ("a.c", 100, 0, Some(ReadError::Fault)),
-        ("a.c", 100, 1, Some(ReadError::Fault)),
+        ("shorter than the limit", "a.c", 100, NEVER, None),
+        ("as long as the limit", "a.c", 9, NEVER, None),
+        (
+            "one byte too long",
+            "a.c",
+            8,
+            NEVER,
+            Some(ReadError::TooLong),
+        ),
+        ("no such file", "b.c", 100, NEVER, Some(ReadError::Fault)),
+        (
+            "the first call fails",
+            "a.c",
+            100,
+            0,
+            Some(ReadError::Fault),
+        ),
+        (
+            "the call that would find the end fails",
+            "a.c",
+            100,
+            1,
+            Some(ReadError::Fault),
+        ),
     ];
-    for (name, limit, call, want) in cases {
+    for (reason, name, limit, call, want) in cases {
         let mut folder = folder_of(rt.alloc(), "a.c", b"int main;", 0, 0, call)
             .ok()
             .ok_or("memory")?;
         assert_eq!(rt; folder.file("a.c"), Some(b"int main;".as_slice()));
         match read_all(rt.alloc(), &mut folder, name, limit) {
             Ok(bytes) => {
-                assert_eq!(rt; bytes.items(), b"int main;".as_slice());
-                assert_eq!(rt; None, want, "{name} {limit} {call}");
+                assert_eq!(rt; bytes.items(), b"int main;".as_slice(), "{reason}");
+                assert_eq!(rt; None, want, "{reason}");
             }
-            Err(error) => assert_eq!(rt; Some(error), want, "{name} {limit} {call}"),
+            Err(error) => assert_eq!(rt; Some(error), want, "{reason}"),
         }
     }
     Ok(())
@@ -147,18 +165,18 @@ impl Folder for Dripping {
 #[test]
 fn reads_byte_by_byte(rt: HostRuntime) -> Result<(), Fail> {
     let cases = [
-        (NEVER, 5, None),
-        (NEVER, 4, Some(ReadError::TooLong)),
-        (3, 5, Some(ReadError::Fault)),
+        ("five reads of one byte", NEVER, 5, None),
+        ("one byte too long", NEVER, 4, Some(ReadError::TooLong)),
+        ("the fourth read fails", 3, 5, Some(ReadError::Fault)),
     ];
-    for (call, limit, want) in cases {
+    for (reason, call, limit, want) in cases {
         let mut folder = make_dripping(b"drops", call);
         match read_all(rt.alloc(), &mut folder, "a.c", limit) {
             Ok(bytes) => {
-                assert_eq!(rt; bytes.items(), b"drops".as_slice());
-                assert_eq!(rt; None, want, "{call} {limit}");
+                assert_eq!(rt; bytes.items(), b"drops".as_slice(), "{reason}");
+                assert_eq!(rt; None, want, "{reason}");
             }
-            Err(error) => assert_eq!(rt; Some(error), want, "{call} {limit}"),
+            Err(error) => assert_eq!(rt; Some(error), want, "{reason}"),
         }
     }
     Ok(())
@@ -167,15 +185,20 @@ fn reads_byte_by_byte(rt: HostRuntime) -> Result<(), Fail> {
 /// Short writes make the whole file, over what it held, and a failure in mid-stream is told.
 #[test]
 fn writes_byte_by_byte(rt: HostRuntime) -> Result<(), Fail> {
-    for (call, want) in [(NEVER, true), (0, false), (3, false)] {
+    let cases = [
+        ("five writes of one byte", NEVER, true),
+        ("the call to begin fails", 0, false),
+        ("the third write fails", 3, false),
+    ];
+    for (reason, call, want) in cases {
         let mut folder = make_dripping(b"longer", call);
         let written = write_file(&mut folder, "a.c", b"drops");
-        assert_eq!(rt; written.is_ok(), want, "{call}");
+        assert_eq!(rt; written.is_ok(), want, "{reason}");
         if written.is_ok() {
             let bytes = read_all(rt.alloc(), &mut folder, "a.c", 9)
                 .ok()
                 .ok_or("read")?;
-            assert_eq!(rt; bytes.items(), b"drops".as_slice());
+            assert_eq!(rt; bytes.items(), b"drops".as_slice(), "{reason}");
         }
     }
     Ok(())
@@ -186,26 +209,30 @@ fn writes_byte_by_byte(rt: HostRuntime) -> Result<(), Fail> {
 #[test]
 fn writes_to_memory_or_fails(rt: HostRuntime) -> Result<(), Fail> {
     let cases = [
-        (1, 6, NEVER, true),
-        (1, 6, 0, false),
-        (1, 6, 1, false),
-        (1, 6, 2, true),
-        (1, 5, NEVER, false),
-        (0, 6, NEVER, false),
+        ("room for the whole text", 1, 6, NEVER, true),
+        ("the call to begin fails", 1, 6, 0, false),
+        ("the call to append fails", 1, 6, 1, false),
+        ("a later call would fail", 1, 6, 2, true),
+        ("one byte of room too little", 1, 5, NEVER, false),
+        ("no further file is left", 0, 6, NEVER, false),
     ];
-    for (spare, room, call, want) in cases {
+    for (reason, spare, room, call, want) in cases {
         let mut folder = folder_of(rt.alloc(), "a.c", b"int main;", spare, room, call)
             .ok()
             .ok_or("memory")?;
         let written = write_file(&mut folder, "b.c", b"int x;");
-        assert_eq!(rt; written.is_ok(), want, "{spare} {room} {call}");
-        assert_eq!(rt; folder.file("a.c"), Some(b"int main;".as_slice()));
+        assert_eq!(rt; written.is_ok(), want, "{reason}");
+        assert_eq!(rt;
+            folder.file("a.c"),
+            Some(b"int main;".as_slice()),
+            "{reason}"
+        );
         if want {
-            assert_eq!(rt; folder.file("b.c"), Some(b"int x;".as_slice()));
+            assert_eq!(rt; folder.file("b.c"), Some(b"int x;".as_slice()), "{reason}");
             let read = read_all(rt.alloc(), &mut folder, "b.c", 9);
-            assert_eq!(rt; read.is_ok(), call == NEVER);
+            assert_eq!(rt; read.is_ok(), call == NEVER, "{reason}");
         } else if room == 5 {
-            assert_eq!(rt; folder.file("b.c"), Some(b"int x".as_slice()));
+            assert_eq!(rt; folder.file("b.c"), Some(b"int x".as_slice()), "{reason}");
         }
     }
     Ok(())
@@ -216,13 +243,17 @@ fn writes_to_memory_or_fails(rt: HostRuntime) -> Result<(), Fail> {
 #[test]
 fn keeps_its_room(rt: HostRuntime) -> Result<(), Fail> {
     let long = [b'n'; 256];
-    for (count, want) in [(255, true), (256, false)] {
+    let cases = [
+        ("the longest name", 255, true),
+        ("one byte more than the longest name", 256, false),
+    ];
+    for (reason, count, want) in cases {
         let name = str::from_utf8(&long[..count]).ok().ok_or("text")?;
         let mut folder = folder_of(rt.alloc(), "a.c", b"int main;", 1, 4, NEVER)
             .ok()
             .ok_or("memory")?;
-        assert_eq!(rt; folder.append_piece(name, b"int").is_ok(), want, "{count}");
-        assert_eq!(rt; folder.file(name).is_some(), want, "{count}");
+        assert_eq!(rt; folder.append_piece(name, b"int").is_ok(), want, "{reason}");
+        assert_eq!(rt; folder.file(name).is_some(), want, "{reason}");
         assert_eq!(rt; folder.append_piece("a.c", b"x"), Err(Failed));
         assert_eq!(rt; folder.append_piece("a.c", b""), Ok(0));
         assert_eq!(rt; folder.begin("a.c"), Ok(()));
@@ -236,18 +267,19 @@ fn keeps_its_room(rt: HostRuntime) -> Result<(), Fail> {
 #[test]
 fn writes_to_memory(rt: HostRuntime) -> Result<(), Fail> {
     let text = b"SUCCESSFUL\n".as_slice();
-    for (room, call, want) in [
-        (11, NEVER, text),
-        (5, NEVER, b"SUCCE".as_slice()),
-        (11, 0, b"".as_slice()),
-    ] {
+    let cases = [
+        ("room for the whole text", 11, NEVER, text),
+        ("room for its front alone", 5, NEVER, b"SUCCE".as_slice()),
+        ("the first call fails", 11, 0, b"".as_slice()),
+    ];
+    for (reason, room, call, want) in cases {
         let calls = calls_of(rt.alloc(), call).ok().ok_or("memory")?;
         let mut sink = MemorySink::new(rt.alloc(), room, calls)
             .ok()
             .ok_or("memory")?;
         let written = write_all(&mut sink, text);
-        assert_eq!(rt; sink.written(), want);
-        assert_eq!(rt; written.is_ok(), want.len() == text.len());
+        assert_eq!(rt; sink.written(), want, "{reason}");
+        assert_eq!(rt; written.is_ok(), want.len() == text.len(), "{reason}");
     }
     Ok(())
 }
