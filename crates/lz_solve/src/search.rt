@@ -1,5 +1,4 @@
-ghost use Rattle.std.specs.Prelude.{◌≡◌, ◌≢◌, ℕ, ◌+◌, ◌^◌, ◌<◌, ◌≤◌, [], length, slice_get, IfOk};
-ghost use Rattle.std.specs.List.{All};
+ghost use Rattle.std.specs.Prelude.{◌≡◌, ℕ, ◌+◌, ◌^◌, ◌<◌, ◌≤◌, length, slice_get, IfOk};
 ghost use Rattle.lz_cnf.specs.Models.{IsFormula, NoneEmpty};
 ghost use Rattle.lz_cnf.specs.Partial.{IsQuiet};
 ghost use Rattle.lz_prop.specs.Trail.{IsFalseNamed, literals, entry_of, value_in};
