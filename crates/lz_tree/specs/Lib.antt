@@ -5,6 +5,7 @@ pub mod Pieces
 pub mod Tokens
 pub mod Trees
 pub mod ScopedTrees
+pub mod Calls
 pub mod Height
 pub mod Languages
 pub mod Spelling

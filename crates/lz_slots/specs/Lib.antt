@@ -1,0 +1,4 @@
+pub mod Nesting
+pub mod CostTable
+pub mod Slots
+pub mod Costs
