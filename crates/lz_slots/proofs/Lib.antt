@@ -1,1 +1,4 @@
+pub mod SumLemmas
+pub mod SaturationLemmas
+pub mod ArgumentLemmas
 pub mod Witnesses

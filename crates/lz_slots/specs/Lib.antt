@@ -2,3 +2,4 @@ pub mod Nesting
 pub mod CostTable
 pub mod Slots
 pub mod Costs
+pub mod Walking

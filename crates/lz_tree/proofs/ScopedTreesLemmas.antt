@@ -1,16 +1,21 @@
 -- The children of a tree whose names are what they mean, as the items of the `Vec` that holds them.
-use Rattle.std.proofs.Common.{◌≡◌, ℕ, map, refl, ap, ◌∙◌, Vec, Global, Option}
+use Rattle.std.proofs.Common.{◌≡◌, ℕ, map, refl, ap, ◌∙◌, Vec, Box, Global, Option, Some, None}
 use mathlib.Core.Former.{Count}
 use Rattle.lz_base.specs.declared.word.IntType.{IntType}
 use Rattle.lz_tree.specs.declared.scoped.Object.{Object}
-use Rattle.lz_tree.specs.declared.scoped.ScopedExpr.{ScopedExpr, Call, Call', Row_of-ScopedExpr, end_of-ScopedExpr, more_of-ScopedExpr, items-the_row-ScopedExpr, items_hidden-the_row-ScopedExpr-0}
+use Rattle.lz_tree.specs.declared.scoped.ScopedExpr.{ScopedExpr, Call, Call', Row_of-ScopedExpr, end_of-ScopedExpr, more_of-ScopedExpr, items-the_row-ScopedExpr, items_hidden-the_row-ScopedExpr-0, back-ScopedTarget-index}
 use Rattle.lz_tree.specs.declared.scoped.ScopedStmt.{ScopedStmt, Block, Block', Row_of-ScopedStmt, end_of-ScopedStmt, more_of-ScopedStmt, items-the_row-ScopedStmt, items_hidden-the_row-ScopedStmt-0}
-use Rattle.lz_tree.specs.ScopedTrees.{call, ScopedExpressions, and, scoped_expression, scoped_expressions, scoped_expressions_of, block, ScopedStatements, cons, scoped_statement, scoped_statements, scoped_statements_of}
+use Rattle.lz_tree.specs.ScopedTrees.{call, ScopedExpressions, and, scoped_expression, scoped_expressions, scoped_expressions_of, scoped_index, scoped_index_of, block, ScopedStatements, cons, scoped_statement, scoped_statements, scoped_statements_of}
 
 -- the expressions of a row are its items
 pub rows_scoped_expressions : (n : _) (k : Row_of-ScopedExpr n) → scoped_expressions k ≡ scoped_expressions_of (map scoped_expression (items-the_row-ScopedExpr n k))
 rows_scoped_expressions _ end_of-ScopedExpr = refl
 rows_scoped_expressions _ (more_of-ScopedExpr e rest) = ap (λ (x : ScopedExpressions). and (scoped_expression e) x) (rows_scoped_expressions _ rest)
+
+-- the index of a target inside a node is that of the target by itself
+pub scoped_index-back : (i : Option (Box ScopedExpr Global)) → scoped_index (back-ScopedTarget-index i) ≡ scoped_index_of i
+scoped_index-back None = refl
+scoped_index-back (Some e) = refl
 
 -- the statements of a row are its items
 pub rows_scoped_statements : (n : _) (k : Row_of-ScopedStmt n) → scoped_statements k ≡ scoped_statements_of (map scoped_statement (items-the_row-ScopedStmt n k))
