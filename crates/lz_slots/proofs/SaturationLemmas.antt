@@ -9,8 +9,8 @@ pub saturated_product : (k a b : ℕ) → saturated a ≡ saturated b → satura
 saturated_product zero a b e = omega arith
 saturated_product (suc k) a b e =
     elim (cases_lt a (2 ^ 64 - 1)) [
-      inl low ↦ let same : a ≡ b = omega arith in ap (λ x. saturated (suc k * x)) same
-    | inr high ↦ omega arith
+      | inl low ↦ let same : a ≡ b = omega arith in ap (λ x. saturated (suc k * x)) same
+      | inr high ↦ omega arith
     ]
 
 -- a sum of numbers that stop alike stops alike

@@ -3,6 +3,7 @@ use Rattle.std.proofs.Common.{◌≡◌, ℕ, suc, ◌+◌, ◌<◌, List, [], �
 use Rattle.std.proofs.Math.Seq.{drop-cons, drop-length}
 use Rattle.lz_tree.specs.ScopedTrees.{ScopedExpression, scoped_expressions_of, ScopedInitDeclarator, ScopedStatement, scoped_statements_of}
 use Rattle.lz_slots.specs.Nesting.{saturated}
+use Rattle.lz_slots.specs.Slots.{SiteRates, expression_sites, expressions_sites, statement_sites, statements_sites, declarator_sites, declarators_sites}
 use Rattle.lz_slots.specs.Costs.{Rates, expression_cost, expressions_cost, statement_cost, statements_cost, declarator_cost, declarators_cost}
 
 -- the sum of the numbers of a list's items
@@ -24,6 +25,21 @@ declarators_cost-of r f (x ∷ rest) = ap (λ n. declarator_cost r (f x) + n) (d
 pub statements_cost-of : {A : Type 0} (r : Rates) (f : A → ScopedStatement) (xs : List A) → statements_cost r (scoped_statements_of (map f xs)) ≡ total (λ x. statement_cost r (f x)) xs
 statements_cost-of r f [] = refl
 statements_cost-of r f (x ∷ rest) = ap (λ n. statement_cost r (f x) + n) (statements_cost-of r f rest)
+
+-- the sites of expressions in a list
+pub expressions_sites-of : {A : Type 0} (r : SiteRates) (f : A → ScopedExpression) (xs : List A) → expressions_sites r (scoped_expressions_of (map f xs)) ≡ total (λ x. expression_sites r (f x)) xs
+expressions_sites-of r f [] = refl
+expressions_sites-of r f (x ∷ rest) = ap (λ n. expression_sites r (f x) + n) (expressions_sites-of r f rest)
+
+-- that of declarators in a list
+pub declarators_sites-of : {A : Type 0} (r : SiteRates) (f : A → ScopedInitDeclarator) (xs : List A) → declarators_sites r (map f xs) ≡ total (λ x. declarator_sites r (f x)) xs
+declarators_sites-of r f [] = refl
+declarators_sites-of r f (x ∷ rest) = ap (λ n. declarator_sites r (f x) + n) (declarators_sites-of r f rest)
+
+-- that of statements in a list
+pub statements_sites-of : {A : Type 0} (r : SiteRates) (f : A → ScopedStatement) (xs : List A) → statements_sites r (scoped_statements_of (map f xs)) ≡ total (λ x. statement_sites r (f x)) xs
+statements_sites-of r f [] = refl
+statements_sites-of r f (x ∷ rest) = ap (λ n. statement_sites r (f x) + n) (statements_sites-of r f rest)
 
 -- What a sum keeps: the sum so far and that of the items that are left give the whole, however far it counts.
 pub record IsSumSoFar {A : Type 0} (f : A → ℕ) (xs : List A) (at sum : ℕ) : Type 0 where

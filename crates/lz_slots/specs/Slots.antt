@@ -15,9 +15,19 @@ pub record SiteRates : Type 0 where
   pub weights : ℕ → ℕ
   pub bodies : ℕ → ℕ
 
+-- the function that a name means, or 0 where it means something else
+abbrev pub function_of : Object → ℕ
+function_of (Local first len kind) = 0
+function_of (Cell first len kind) = 0
+function_of (Mutex first len) = 0
+function_of (Cond first len) = 0
+function_of (Handle first len) = 0
+function_of (Routine function) = function
+function_of (Known name) = 0
+
 -- the function that an argument names
 abbrev pub named_function : ScopedExpression → ℕ
-named_function (object (lvalue line (Routine function) index checked) kind) = function
+named_function (object (lvalue line meant index checked) kind) = function_of meant
 named_function _ = 0
 
 -- the function that a create starts, which is its third argument
@@ -55,7 +65,7 @@ abbrev mutual
   expression_sites r (choose line a b c kind) = expression_sites r a + expression_sites r b + expression_sites r c
   expression_sites r (assign line op to e kind) = lvalue_sites r to + expression_sites r e
   expression_sites r (step line of up before kind) = lvalue_sites r of
-  expression_sites r (call line callee args kind) = expressions_sites r args + callee_sites r callee args
+  expression_sites r (call line callee args kind) = callee_sites r callee args + expressions_sites r args
 
   pub lvalue_sites : SiteRates → Lvalue → ℕ
   lvalue_sites r (lvalue line meant index checked) = index_sites r index

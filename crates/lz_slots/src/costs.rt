@@ -6,10 +6,12 @@ ghost use Rattle.lz_slots.specs.Walking.{rates_of};
 
 use crate::saturate::{plus, times};
 use crate::table::{
-    CAST, CHOOSE, IF, JUMP, TURN, assignment_number, binary_number, call_number, declarator_number, known_number, length_of,
-    object_number, step_number, unary_number,
+    CAST, CHOOSE, IF, JUMP, TURN, assignment_number, binary_number, call_number, declarator_number,
+    known_number, length_of, object_number, step_number, unary_number,
 };
-use lz_tree::{Object, ScopedDeclarator, ScopedExpr, ScopedFirst, ScopedObjects, ScopedStmt, ScopedTarget};
+use lz_tree::{
+    Object, ScopedDeclarator, ScopedExpr, ScopedFirst, ScopedObjects, ScopedStmt, ScopedTarget,
+};
 
 /// What the cost of a tree is taken with: the turns of a loop, the number of threads, and the cost of each
 /// function's body.
@@ -35,7 +37,9 @@ fn argument_length(argument: &ScopedExpr) -> u32
     ensures { result ≡ costs.argument_length (scoped_expression argument.now) }
 {
     match argument {
-        ScopedExpr::Object { target, .. } | ScopedExpr::Address { target, .. } => length_of(target.object),
+        ScopedExpr::Object { target, .. } | ScopedExpr::Address { target, .. } => length_of(
+            target.object,
+        ),
         _ => 1,
     }
 }
@@ -62,8 +66,16 @@ fn callee_cost(rates: &Rates, callee: Object, args: &[ScopedExpr]) -> u64
     ensures { result ≡ saturated (costs.callee_cost (rates_of rates.now.turns rates.now.threads rates.now.bodies.now) callee (scoped_expressions_of (map scoped_expression args.now))) }
 {
     match callee {
-        Object::Routine { function } => plus(call_number(args.len() as u64), number_at(rates.bodies, function)),
-        Object::Known { name } => known_number(name, rates.threads, first_length(args), second_length(args)),
+        Object::Routine { function } => plus(
+            call_number(args.len() as u64),
+            number_at(rates.bodies, function),
+        ),
+        Object::Known { name } => known_number(
+            name,
+            rates.threads,
+            first_length(args),
+            second_length(args),
+        ),
         _ => 0,
     }
 }
@@ -93,7 +105,10 @@ fn expressions_cost(rates: &Rates, items: &[ScopedExpr]) -> u64
 fn call_cost(rates: &Rates, callee: Object, args: &[ScopedExpr]) -> u64
     ensures { result ≡ saturated (costs.callee_cost (rates_of rates.now.turns rates.now.threads rates.now.bodies.now) callee (scoped_expressions_of (map scoped_expression args.now)) + costs.expressions_cost (rates_of rates.now.turns rates.now.threads rates.now.bodies.now) (scoped_expressions_of (map scoped_expression args.now))) }
 {
-    plus(callee_cost(rates, callee, args), expressions_cost(rates, args))
+    plus(
+        callee_cost(rates, callee, args),
+        expressions_cost(rates, args),
+    )
 }
 
 #[cycle(expression_cost)]
@@ -107,7 +122,12 @@ fn expression_cost(rates: &Rates, e: &ScopedExpr) -> u64
         ScopedExpr::Paren { inner, .. } => expression_cost(rates, inner),
         ScopedExpr::Unary { op, of, .. } => plus(unary_number(*op), expression_cost(rates, of)),
         ScopedExpr::Cast { of, .. } => plus(CAST, expression_cost(rates, of)),
-        ScopedExpr::Binary { op, left, right, .. } => {
+        ScopedExpr::Binary {
+            op,
+            left,
+            right,
+            ..
+        } => {
             let both = plus(expression_cost(rates, left), expression_cost(rates, right));
             plus(binary_number(*op), both)
         }
@@ -115,7 +135,12 @@ fn expression_cost(rates: &Rates, e: &ScopedExpr) -> u64
             let either = plus(expression_cost(rates, yes), expression_cost(rates, no));
             plus(CHOOSE, plus(expression_cost(rates, test), either))
         }
-        ScopedExpr::Assign { op, target, value, .. } => {
+        ScopedExpr::Assign {
+            op,
+            target,
+            value,
+            ..
+        } => {
             let parts = plus(index_cost(rates, target), expression_cost(rates, value));
             plus(assignment_number(*op, target), parts)
         }
@@ -146,7 +171,10 @@ fn initializer_cost(rates: &Rates, first: &ScopedFirst) -> u64
 fn declarator_cost(rates: &Rates, declarator: &ScopedDeclarator) -> u64
     ensures { result ≡ saturated (costs.declarator_cost (rates_of rates.now.turns rates.now.threads rates.now.bodies.now) (scoped_declarator declarator.now)) }
 {
-    let parts = plus(optional_cost(rates, &declarator.length), initializer_cost(rates, &declarator.first));
+    let parts = plus(
+        optional_cost(rates, &declarator.length),
+        initializer_cost(rates, &declarator.first),
+    );
     plus(declarator_number(declarator.object), parts)
 }
 
@@ -206,11 +234,24 @@ pub fn statement_cost(rates: &Rates, s: &ScopedStmt) -> u64
             plus(IF, plus(expression_cost(rates, test), either))
         }
         ScopedStmt::While { test, body, .. } | ScopedStmt::Do { body, test, .. } => {
-            loop_cost(rates, expression_cost(rates, test), statement_cost(rates, body))
+            loop_cost(
+                rates,
+                expression_cost(rates, test),
+                statement_cost(rates, body),
+            )
         }
-        ScopedStmt::For { first, test, step, body, .. } => {
+        ScopedStmt::For {
+            first,
+            test,
+            step,
+            body,
+            ..
+        } => {
             let turn = plus(statement_cost(rates, body), optional_cost(rates, step));
-            plus(statement_cost(rates, first), loop_cost(rates, optional_cost(rates, test), turn))
+            plus(
+                statement_cost(rates, first),
+                loop_cost(rates, optional_cost(rates, test), turn),
+            )
         }
         ScopedStmt::Return { value, .. } => plus(JUMP, optional_cost(rates, value)),
         ScopedStmt::Label { of, .. } => statement_cost(rates, of),

@@ -9,8 +9,8 @@ mod table;
 
 pub use costs::{Rates, number_at, statement_cost};
 pub use saturate::{plus, times};
-pub use sites::SiteWeight;
+pub use sites::{SiteRates, SiteWeight, statement_sites};
 pub use table::{
-    CAST, CHOOSE, IF, JUMP, THREAD, TURN, assignment_number, binary_number, call_number, declarator_number, known_number, length_of,
-    object_number, step_number, unary_number,
+    CAST, CHOOSE, IF, JUMP, THREAD, TURN, assignment_number, binary_number, call_number,
+    declarator_number, known_number, length_of, object_number, step_number, unary_number,
 };
