@@ -1,0 +1,6 @@
+pub mod SumLemmas
+pub mod SaturationLemmas
+pub mod ArgumentLemmas
+pub mod AgreementLemmas
+pub mod NestingLemmas
+pub mod Witnesses

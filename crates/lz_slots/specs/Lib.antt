@@ -1,0 +1,5 @@
+pub mod Nesting
+pub mod CostTable
+pub mod Slots
+pub mod Costs
+pub mod Walking
