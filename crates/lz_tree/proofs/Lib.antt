@@ -1,3 +1,4 @@
 pub mod TreesLemmas
+pub mod ScopedTreesLemmas
 pub mod HeightLemmas
 pub mod Witnesses

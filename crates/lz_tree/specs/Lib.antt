@@ -4,6 +4,7 @@ pub mod FirstForm
 pub mod Pieces
 pub mod Tokens
 pub mod Trees
+pub mod ScopedTrees
 pub mod Height
 pub mod Languages
 pub mod Spelling

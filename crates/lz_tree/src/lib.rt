@@ -6,6 +6,7 @@ mod expression;
 pub mod first_form;
 mod measure;
 mod program;
+mod scoped;
 mod statement;
 mod token;
 
@@ -13,6 +14,11 @@ pub use expression::{Expr, Exprs, Target, TypeName};
 pub use lz_base::{Binary, Unary};
 pub use measure::height;
 pub use program::{External, Externals, Lead, Param, Params, Program};
+pub use scoped::{
+    Kinds, KnownName, Object, Scoped, ScopedDeclarator, ScopedDeclarators, ScopedExpr, ScopedExprs,
+    ScopedFirst, ScopedFunction, ScopedFunctions, ScopedObjects, ScopedStmt, ScopedStmts,
+    ScopedTarget,
+};
 pub use statement::{Declarator, Declarators, First, Objects, Stmt, Stmts};
 pub use token::{Form, Keyword, Names, Punct, Token, TokenKind, TokenList, Tokens};
 
