@@ -1,9 +1,8 @@
 -- Trusted: actions with their lines, and what a schedule says of an action.
-use Rattle.std.specs.Prelude.{ℕ, ◌+◌, Bool, true, false, List, [], ◌∷◌, Option, Some, None}
+use Rattle.std.specs.Prelude.{ℕ, ◌+◌, Bool, true, false, Option, Some, None}
 use Rattle.lz_model.specs.declared.actions.Action.{Action}
 use Rattle.lz_model.specs.declared.actions.Action.TheVariants.{Loc, Input, Check, Assume, Rd, Wr, Reset, Lock, Unlock, Park, Wake, Signal, Broadcast, Create, Join, HoldOn, HoldOff, End}
 use Rattle.lz_model.specs.declared.actions.Event.{Event}
-use Rattle.lz_model.specs.declared.schedule.Step.{Step}
 
 -- An action, with its line: that of the index's object for a check of an index, 0 for the input of a declaration
 -- and for the end of a thread, else the line of the node that does the action.

@@ -6,7 +6,6 @@ use Rattle.lz_model.specs.declared.actions.Event.{Event}
 use Rattle.lz_model.specs.declared.schedule.Step.{Step}
 use Rattle.lz_model.specs.Rounds.{rounds_of}
 use Rattle.lz_model.specs.Actions.{choice_of}
-use Rattle.lz_model.specs.Store.{State}
 use Rattle.lz_model.specs.Interleavings.{Process, broken, course, IsRun}
 
 -- the run ends in a check that breaks, of this kind and on this line

@@ -2,7 +2,6 @@
 -- a check. A switch may come after any action.
 use Rattle.std.specs.Prelude.{◌≡◌, ◌≢◌, ℕ, zero, suc, ◌==◌, List, [], ◌∷◌, Option, Some, None, if◌then◌else◌}
 use Rattle.lz_base.specs.declared.word.BreakKind.{BreakKind}
-use Rattle.lz_model.specs.declared.actions.Action.{Action}
 use Rattle.lz_model.specs.declared.actions.Event.{Event}
 use Rattle.lz_model.specs.Actions.{Act, act_of, Start, started_by}
 use Rattle.lz_model.specs.Store.{State, Acted, went, blocked, broke, act}

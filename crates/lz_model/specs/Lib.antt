@@ -9,3 +9,6 @@ pub mod Store
 pub mod Interleavings
 pub mod BrokenRuns
 pub mod ScheduleText
+pub mod Behaviours
+pub mod CodeTraces
+pub mod Programs
