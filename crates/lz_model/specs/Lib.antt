@@ -4,3 +4,11 @@ pub mod SharedState
 pub mod Runs
 pub mod Rounds
 pub mod Violation
+pub mod Actions
+pub mod Store
+pub mod Interleavings
+pub mod BrokenRuns
+pub mod ScheduleText
+pub mod Behaviours
+pub mod CodeTraces
+pub mod Programs
