@@ -1,7 +1,7 @@
 -- A loop over external declarations beside the reader that recurs over them, and the height of a body.
 use Rattle.std.proofs.Common.{◌≡◌, ℕ, zero, suc, ◌+◌, ◌-◌, ◌<◌, ◌≤◌, Bool, true, false, List, [], ◌∷◌, ◌++◌, refl, sym, ap, ◌∙◌, append_assoc, append-nil, inl, inr, arith}
 use Rattle.std.specs.Prelude.{◌⊎◌}
-use Rattle.lz_expr.specs.Reading.{Outcome, gives, refused, Reader, and_then, ◌>>=◌, pure, starts, many, behind}
+use Rattle.lz_expr.specs.Reading.{Outcome, gives, refused, Reader, and_then, pure, starts, many, behind}
 use Rattle.lz_grammar.specs.Grammar.{blocked, stmt}
 use Rattle.lz_program.specs.Grammar.{body}
 

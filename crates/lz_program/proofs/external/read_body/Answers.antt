@@ -1,4 +1,3 @@
-use Rattle.std.proofs.Common.{◌≡◌}
 use Rattle.lz_program.proofs.LoopsLemmas.{body_below}
 use Rattle.lz_program.proofs.external.read_body.Goals as goal
 
