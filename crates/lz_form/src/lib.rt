@@ -9,3 +9,6 @@ mod reserved;
 mod statement;
 
 pub use program::first_form;
+
+#[cfg(test)]
+mod tests;

@@ -1,6 +1,6 @@
-ghost use Rattle.std.specs.Prelude.{◌≡◌, map, option_map, IfOk};
+ghost use Rattle.std.specs.Prelude.{◌≡◌, map, option_map, IfOk, IfSome};
 ghost use Rattle.lz_tree.specs.Trees as tree;
-ghost use Rattle.lz_tree.specs.FirstFormScopes.{statement, program};
+ghost use Rattle.lz_tree.specs.FirstFormScopes.{statement, program, IsWellFormed};
 ghost use Rattle.lz_tree.specs.FirstFormTrees.{nothing_declared, is_int, with_external, is_main, main_of, program_from, first_form};
 ghost use Rattle.lz_form.specs.Reading.{Gives, with_externals};
 ghost use Rattle.lz_form.specs.Views.{declared_of};
@@ -115,6 +115,8 @@ fn read(alloc: Global, names: &[Name], externals: &[External]) -> Result<Scoped,
 pub fn first_form(alloc: Global, of: &Program) -> Result<Option<Scoped>, Memory>
     // What is answered is the program that the tree means, and none is answered exactly where it means none.
     ensures meant { IfOk result (λ found. option_map program found ≡ first_form (tree.translation_unit of.now)) }
+    // Its cells and words are its own.
+    ensures well_formed { IfOk result (λ found. IfSome found (λ scoped. IsWellFormed (program scoped))) }
 {
     match read(alloc, of.names.items(), of.externals.items()) {
         Ok(scoped) => Ok(Some(scoped)),

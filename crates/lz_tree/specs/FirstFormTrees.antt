@@ -161,13 +161,15 @@ abbrev pub is_int : TypeName → Bool
 is_int types.Int = true
 is_int _ = false
 
+-- one object, where there is one declarator
+abbrev pub with_one : List (List ℕ) → Declared → List tree.InitDeclarator → Option Declared
+with_one names declared (one ∷ []) = with_object names declared one.name one.length one.first
+with_one names declared _ = None
+
 -- a declaration of one `int` object, without `static`
 unfoldable pub with_external : List (List ℕ) → Declared → tree.ExternalDeclaration → Option Declared
-with_external names declared (tree.objects hidden of) = if not hidden && is_int of.base then one of.declarators else None
-  where
-    one : List tree.InitDeclarator → Option Declared
-    one (d ∷ []) = with_object names declared d.name d.length d.first
-    one _ = None
+with_external names declared (tree.objects hidden of) =
+    if not hidden && is_int of.base then with_one names declared of.declarators else None
 with_external names declared _ = None
 
 abbrev pub is_empty : {A : Type 0} → List A → Bool
