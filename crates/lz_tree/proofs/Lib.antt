@@ -2,3 +2,4 @@ pub mod TreesLemmas
 pub mod ScopedTreesLemmas
 pub mod HeightLemmas
 pub mod Witnesses
+pub mod FirstFormLemmas
