@@ -1,0 +1,9 @@
+pub mod ValueTypes
+pub mod Constants
+pub mod KnownNames
+pub mod Scopes
+pub mod ExpressionTypes
+pub mod Faults
+pub mod ScopedPrograms
+pub mod Calls
+pub mod Checking

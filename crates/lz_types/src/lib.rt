@@ -1,0 +1,12 @@
+//! The rules of the checked language: what is wrong with a program, and what its names mean (C99 6.2 to 6.9).
+#![tactic(auto)]
+
+mod constant;
+mod fault;
+mod names;
+mod value_type;
+
+pub use constant::Word;
+pub use fault::{Fault, Rule, TypeError};
+pub use names::Entry;
+pub use value_type::{ValueType, Want};
