@@ -1,1 +1,2 @@
 mod Witnesses
+mod ScopedWitnesses
