@@ -21,7 +21,9 @@ use Rattle.lz_types.specs.declared.names.Entry.{Entry}
 use Rattle.lz_types.specs.ValueTypes.{value_type, is_refused, is_pointer, is_thread, is_mutex, is_cond, is_no_operand, kind_of, counted, when, want_of, clash}
 use Rattle.lz_types.specs.Constants.{is_large, has_longs, constant_kind, joint, binary_kind, unary_kind}
 use Rattle.lz_types.specs.KnownNames.{wants_of_known, takes_more, is_for_threads, given_by_known}
-use Rattle.lz_types.specs.Scopes.{Signature, function_named, is_start_at, Named, named, nearest, Place, around, called_by}
+use Rattle.lz_types.specs.declared.place.Place.{Place}
+use Rattle.lz_types.specs.Names.{nearest}
+use Rattle.lz_types.specs.Scopes.{Signature, function_named, is_start_at, Named, named, around, called_by}
 
 -- What is known of the whole file before it is walked: what its names mean by themselves, which of them is `main`, its
 -- functions, and of each by its number whether another one can reach it, whether a start routine can or it is one,

@@ -16,7 +16,9 @@ use Rattle.lz_types.specs.ValueTypes.{is_refused, value_type, are_one_type, are_
 use Rattle.lz_types.specs.ValueTypes as values
 use Rattle.lz_types.specs.Constants.{elements, is_bad_length, is_constant_initializer, constant_value, length_in}
 use Rattle.lz_types.specs.KnownNames.{is_taken}
-use Rattle.lz_types.specs.Scopes.{Signature, bases, function_named, is_start, is_start_at, Named, named, nearest, Place, is_outside, around, has_object, has_function, with_declarator, with_declarators, with_declaration, with_param, with_params, inside, inside_loop, behind, after, after_branch, after_all, opening, into_body, into, with_function, after_external}
+use Rattle.lz_types.specs.declared.place.Place.{Place}
+use Rattle.lz_types.specs.Names.{nearest}
+use Rattle.lz_types.specs.Scopes.{Signature, bases, function_named, is_start, is_start_at, Named, named, is_outside, around, has_object, has_function, with_declarator, with_declarators, with_declaration, with_param, with_params, inside, inside_loop, behind, after, after_branch, after_all, opening, into_body, into, with_function, after_external}
 use Rattle.lz_types.specs.ExpressionTypes.{File, has_index, misuse, callee, wants_of, further_want, first_want, rest_of, count, is_function_name, is_start_place, is_in_thread, type_at, type_of, choice_want, own}
 
 -- the rules that are broken at a line

@@ -1,6 +1,7 @@
 pub mod ValueTypes
 pub mod Constants
 pub mod KnownNames
+pub mod Names
 pub mod Scopes
 pub mod ExpressionTypes
 pub mod Faults

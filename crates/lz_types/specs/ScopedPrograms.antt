@@ -18,7 +18,9 @@ use Rattle.lz_types.specs.declared.value_type.ValueType.TheVariants.{Integer, Po
 use Rattle.lz_types.specs.ValueTypes.{value_type, kind_of, is_integer}
 use Rattle.lz_types.specs.Constants.{elements, constant_value, word}
 use Rattle.lz_types.specs.KnownNames.{known}
-use Rattle.lz_types.specs.Scopes.{Signature, signatures, bases, is_start, nearest, Place, inside, inside_loop, behind, after, after_branch, after_all, after_body, with_declarator, with_declaration, into_body, opening, after_external, object_from}
+use Rattle.lz_types.specs.declared.place.Place.{Place}
+use Rattle.lz_types.specs.Names.{nearest}
+use Rattle.lz_types.specs.Scopes.{Signature, signatures, bases, is_start, inside, inside_loop, behind, after, after_branch, after_all, after_body, with_declarator, with_declaration, into_body, opening, after_external, object_from}
 use Rattle.lz_types.specs.ExpressionTypes.{File, callee, type_of}
 use Rattle.lz_types.specs.Faults.{main_from, is_start_form}
 

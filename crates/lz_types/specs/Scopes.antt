@@ -10,6 +10,9 @@ use Rattle.lz_tree.specs.declared.scoped.Object.{Object}
 use Rattle.lz_tree.specs.declared.scoped.Object.TheVariants.{Local, Cell, Mutex, Cond, Handle, Routine, Known}
 use Rattle.lz_tree.specs.Trees.{InitDeclarator, Declaration, Statement, empty, eval, block, declare, when, while, do_while, for, break, continue, return, label, Branch, absent, branch, Statements, nil, cons, ExternalDeclaration, objects, prototype, function}
 use Rattle.lz_types.specs.declared.names.Entry.{Entry}
+use Rattle.lz_types.specs.declared.place.Counts.{Counts}
+use Rattle.lz_types.specs.declared.place.Place.{Place}
+use Rattle.lz_types.specs.Names.{or, nearest}
 use Rattle.lz_types.specs.declared.value_type.ValueType.{ValueType}
 use Rattle.lz_types.specs.declared.value_type.ValueType.TheVariants as sorts
 use Rattle.lz_types.specs.ValueTypes.{value_type, kind_of, are_one_type, is_pointer}
@@ -59,39 +62,6 @@ is_start_at None = false
 is_start_at (Some f) = is_start f
 
 -- ---- what is declared
-
--- the first of two that is there
-abbrev pub or : {A : Type 0} → Option A → Option A → Option A
-or (Some x) y = Some x
-or None y = y
-
--- the object of a name in the innermost scope that has one: the last one of the name
-abbrev pub nearest : List Entry → ℕ → Option Entry
-nearest [] name = None
-nearest (e ∷ rest) name = or (nearest rest name) (if name == e.name then Some e else None)
-
--- How many there are so far: over the whole file of cells, mutexes, conditions and thread objects, in a function of
--- its locals, and at file scope of elements of all kinds together.
-pub record Counts : Type 0 where
-  pub cells : ℕ
-  pub mutexes : ℕ
-  pub conds : ℕ
-  pub handles : ℕ
-  pub locals : ℕ
-  pub elements : ℕ
-
--- Where a node of the text stands: the objects that are declared before it, oldest first and without those of scopes
--- that have ended; the names of the functions that are declared before it; how deep its scope is, which is 0 at file
--- scope; the number of its function, at file scope that of the next one, and the type of its result; whether it is in
--- the body of a loop; and what was counted before it.
-pub record Place : Type 0 where
-  pub names : List Entry
-  pub functions : List ℕ
-  pub depth : ℕ
-  pub function : ℕ
-  pub gives : TypeName
-  pub in_loop : Bool
-  pub counts : Counts
 
 -- at file scope
 abbrev pub is_outside : Place → Bool

@@ -4,9 +4,11 @@
 mod constant;
 mod fault;
 mod names;
+mod place;
 mod value_type;
 
 pub use constant::Word;
 pub use fault::{Fault, Rule, TypeError};
-pub use names::Entry;
+pub use names::{Entry, Functions, Names};
+pub use place::{Counts, Place};
 pub use value_type::{ValueType, Want};
