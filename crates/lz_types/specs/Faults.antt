@@ -12,7 +12,7 @@ use Rattle.lz_types.specs.declared.value_type.Want.TheVariants as wants
 use Rattle.lz_types.specs.declared.fault.Fault.{Fault}
 use Rattle.lz_types.specs.declared.fault.Rule.{Rule}
 use Rattle.lz_types.specs.declared.fault.Rule.TheVariants.{DeclaredTwice, KnownNameTaken, TypeMisfit, BadLength, NotConstant, BadInitializer, OutsideLoop, BadReturn, NoMain, ThreadInThread, PointerOutsideStart, LocalMutex, ManyElements, RefusedType, OtherPrototype, TooHigh}
-use Rattle.lz_types.specs.ValueTypes.{is_refused, value_type, are_one_type, are_one_list, is_pointer, is_nothing, is_thread, is_mutex, is_cond, is_no_operand, want_of}
+use Rattle.lz_types.specs.ValueTypes.{is_refused, value_type, are_one_type, are_one_list, is_pointer, is_nothing, is_thread, is_mutex, is_cond, is_lock, is_no_operand, want_of}
 use Rattle.lz_types.specs.ValueTypes as values
 use Rattle.lz_types.specs.Constants.{elements, is_bad_length, is_constant_initializer, constant_value, length_in}
 use Rattle.lz_types.specs.KnownNames.{is_taken}
@@ -139,7 +139,7 @@ module _ (file : File) (place : Place) where
       ++ (values.when (is_outside place && not (is_constant_initializer d.first)) NotConstant
       ++ (values.when (is_bad_initializer (value_type base) d.length d.first) BadInitializer
       ++ (values.when (is_thread (value_type base) && is_in_thread file (around place)) ThreadInThread
-      ++ (values.when (not (is_outside place) && (is_mutex (value_type base) || is_cond (value_type base))) LocalMutex
+      ++ (values.when (not (is_outside place) && is_lock (value_type base)) LocalMutex
       ++ values.when (is_outside place && nat_lt element_limit ((with_declarator place base d).counts.elements)) ManyElements)))))))
 
   -- the faults of an initializer's values
@@ -235,7 +235,7 @@ param_rules file place start p =
     ++ (values.when (takes_known_if file p.name) KnownNameTaken
     ++ (values.when (is_nothing (value_type p.base) || is_thread (value_type p.base)) TypeMisfit
     ++ (values.when (is_pointer (value_type p.base) && not start) PointerOutsideStart
-    ++ (values.when (is_mutex (value_type p.base) || is_cond (value_type p.base)) LocalMutex
+    ++ (values.when (is_lock (value_type p.base)) LocalMutex
     ++ values.when (is_refused p.base) RefusedType))))
 
 unfoldable pub params_faults : File → Place → Bool → List Param → List Fault

@@ -1,6 +1,6 @@
 -- Trusted: what the spelled types are, which of them are refused and which two are one type, and which type fits a
 -- place that wants a value (C99 6.2.5, 6.3 and 6.7.2).
-use Rattle.std.specs.Prelude.{◌≡◌, ℕ, ◌==◌, Bool, true, false, not, ◌&&◌, ◌||◌, List, [], ◌∷◌, if◌then◌else◌}
+use Rattle.std.specs.Prelude.{◌≡◌, ℕ, ◌==◌, Bool, true, false, not, ◌&&◌, ◌||◌, List, [], ◌∷◌, Option, Some, None, if◌then◌else◌}
 use denote.Enum.Bare.{sameb}
 use Rattle.lz_base.specs.declared.word.IntType.{IntType}
 use Rattle.lz_base.specs.declared.word.IntType.TheVariants as kinds
@@ -92,6 +92,12 @@ abbrev pub is_cond : ValueType → Bool
 is_cond Cond = true
 is_cond _ = false
 
+-- a mutex or a condition
+abbrev pub is_lock : ValueType → Bool
+is_lock Mutex = true
+is_lock Cond = true
+is_lock _ = false
+
 -- an object for threads, or a function: nothing that an expression reads or writes
 abbrev pub is_no_operand : ValueType → Bool
 is_no_operand (Integer kind) = false
@@ -114,6 +120,11 @@ counted = Integer kinds.Int
 abbrev pub when : Bool → Rule → List Rule
 when true rule = rule ∷ []
 when false rule = []
+
+-- a rule that is broken, if any, as a list
+abbrev pub rule_list : Option Rule → List Rule
+rule_list None = []
+rule_list (Some rule) = rule ∷ []
 
 -- what a place wants that takes a value of a type
 abbrev pub want_of : ValueType → Want
