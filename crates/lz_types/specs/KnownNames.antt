@@ -1,5 +1,6 @@
 -- Trusted: the names that have a meaning of their own, what each wants for its arguments, and what it gives.
 use Rattle.std.specs.Prelude.{◌≡◌, ℕ, Bool, true, false, List, [], ◌∷◌, codes, bytes_eq, Option, Some, None, if◌then◌else◌}
+use Rattle.std.specs.List.{find}
 use Rattle.lz_base.specs.declared.word.IntType.TheVariants as kinds
 use Rattle.lz_tree.specs.declared.scoped.KnownName.{KnownName}
 use Rattle.lz_tree.specs.declared.scoped.KnownName.TheVariants.{Assert, Assume, NondetInt, NondetUint, Error, ReachError, Abort, AtomicBegin, AtomicEnd, Create, Join, Exit, MutexInit, MutexDestroy, MutexLock, MutexUnlock, CondInit, CondDestroy, CondWait, CondSignal, CondBroadcast, Printf}
@@ -8,49 +9,41 @@ use Rattle.lz_types.specs.declared.value_type.ValueType.TheVariants as sorts
 use Rattle.lz_types.specs.declared.value_type.Want.{Want}
 use Rattle.lz_types.specs.declared.value_type.Want.TheVariants as wants
 
--- a known name, as it is spelled
-pub record Spelled : Type 0 where
-  pub bytes : List ℕ
-  pub name : KnownName
-
-abbrev spelled : List ℕ → KnownName → Spelled
-spelled bytes name = record { bytes = bytes; name = name }
+-- the bytes of a known name
+abbrev pub known_text : KnownName → List ℕ
+known_text Assert = codes "assert"
+known_text Assume = codes "__VERIFIER_assume"
+known_text NondetInt = codes "__VERIFIER_nondet_int"
+known_text NondetUint = codes "__VERIFIER_nondet_uint"
+known_text Error = codes "__VERIFIER_error"
+known_text ReachError = codes "reach_error"
+known_text Abort = codes "abort"
+known_text AtomicBegin = codes "__VERIFIER_atomic_begin"
+known_text AtomicEnd = codes "__VERIFIER_atomic_end"
+known_text Create = codes "pthread_create"
+known_text Join = codes "pthread_join"
+known_text Exit = codes "pthread_exit"
+known_text MutexInit = codes "pthread_mutex_init"
+known_text MutexDestroy = codes "pthread_mutex_destroy"
+known_text MutexLock = codes "pthread_mutex_lock"
+known_text MutexUnlock = codes "pthread_mutex_unlock"
+known_text CondInit = codes "pthread_cond_init"
+known_text CondDestroy = codes "pthread_cond_destroy"
+known_text CondWait = codes "pthread_cond_wait"
+known_text CondSignal = codes "pthread_cond_signal"
+known_text CondBroadcast = codes "pthread_cond_broadcast"
+known_text Printf = codes "printf"
 
 -- the known names: those of C99 7.2, 7.19 and 7.20, of POSIX threads, and of this project's checks
-unfoldable pub known_names : List Spelled
+unfoldable pub known_names : List KnownName
 known_names =
-    spelled (codes "assert") Assert
-    ∷ spelled (codes "__VERIFIER_assume") Assume
-    ∷ spelled (codes "__VERIFIER_nondet_int") NondetInt
-    ∷ spelled (codes "__VERIFIER_nondet_uint") NondetUint
-    ∷ spelled (codes "__VERIFIER_error") Error
-    ∷ spelled (codes "reach_error") ReachError
-    ∷ spelled (codes "abort") Abort
-    ∷ spelled (codes "__VERIFIER_atomic_begin") AtomicBegin
-    ∷ spelled (codes "__VERIFIER_atomic_end") AtomicEnd
-    ∷ spelled (codes "pthread_create") Create
-    ∷ spelled (codes "pthread_join") Join
-    ∷ spelled (codes "pthread_exit") Exit
-    ∷ spelled (codes "pthread_mutex_init") MutexInit
-    ∷ spelled (codes "pthread_mutex_destroy") MutexDestroy
-    ∷ spelled (codes "pthread_mutex_lock") MutexLock
-    ∷ spelled (codes "pthread_mutex_unlock") MutexUnlock
-    ∷ spelled (codes "pthread_cond_init") CondInit
-    ∷ spelled (codes "pthread_cond_destroy") CondDestroy
-    ∷ spelled (codes "pthread_cond_wait") CondWait
-    ∷ spelled (codes "pthread_cond_signal") CondSignal
-    ∷ spelled (codes "pthread_cond_broadcast") CondBroadcast
-    ∷ spelled (codes "printf") Printf
-    ∷ []
-
--- the known name of these bytes among some
-abbrev pub known_among : List Spelled → List ℕ → Option KnownName
-known_among [] bytes = None
-known_among (s ∷ rest) bytes = if bytes_eq bytes s.bytes then Some s.name else known_among rest bytes
+    Assert ∷ Assume ∷ NondetInt ∷ NondetUint ∷ Error ∷ ReachError ∷ Abort ∷ AtomicBegin ∷ AtomicEnd
+    ∷ Create ∷ Join ∷ Exit ∷ MutexInit ∷ MutexDestroy ∷ MutexLock ∷ MutexUnlock ∷ CondInit
+    ∷ CondDestroy ∷ CondWait ∷ CondSignal ∷ CondBroadcast ∷ Printf ∷ []
 
 -- the known name of these bytes
 unfoldable pub known : List ℕ → Option KnownName
-known bytes = known_among known_names bytes
+known bytes = find (λ k. bytes_eq bytes (known_text k)) known_names
 
 -- a name that a file may not take for something of its own: each known name but `reach_error`
 abbrev pub is_taken : Option KnownName → Bool

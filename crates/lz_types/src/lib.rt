@@ -5,10 +5,12 @@ mod constant;
 mod fault;
 mod names;
 mod place;
+mod reserved;
 mod value_type;
 
 pub use constant::Word;
 pub use fault::{Fault, Rule, TypeError};
+pub use reserved::{is_taken, known};
 pub use names::{Entry, Functions, Names};
 pub use place::{Counts, Place};
 pub use value_type::{ValueType, Want};
