@@ -393,7 +393,7 @@ returns = refl
 -- a call of itself
 --     int f(int n) { return f(n); }
 --     int main(void) { return f(1); }
-pub recursion : list_of (function 1 false types.Int 0 (param 1 types.Int (Some 1) ∷ []) false (block (cons (return 1 (Some (call 1 0 (and (object 1 1 whole) none)))) nil)) ∷ function 2 false types.Int 2 ([]) true (block (cons (return 2 (Some (call 2 0 (and (constant 2 1 (form true false 0)) none)))) nil)) ∷ []) (codes "f" ∷ codes "n" ∷ codes "main" ∷ []) (record { returns_to = λ f g. f == 0 && g == 0; is_reached = λ f. false; is_high = λ f. false }) ≡ broken 1 14 ∷ []
+pub recursion : list_of (function 1 false types.Int 0 (param 1 types.Int (Some 1) ∷ []) false (block (cons (return 1 (Some (call 1 0 (and (object 1 1 whole) none)))) nil)) ∷ function 2 false types.Int 2 ([]) true (block (cons (return 2 (Some (call 2 0 (and (constant 2 1 (form true false 0)) none)))) nil)) ∷ []) (codes "f" ∷ codes "n" ∷ codes "main" ∷ []) (record { returning = (0 ∷ []) ∷ [] ∷ []; reached = []; high = [] }) ≡ broken 1 14 ∷ []
 unfolding are_one_type constant_value known known_names after after_external type_of faults declarators_faults statement_faults params_faults external_faults externals_faults file_faults file_with
 recursion = refl
 
@@ -401,7 +401,7 @@ recursion = refl
 --     void f(void) {
 --      return f() + 1; }
 --     int main(void) { return f(); }
-pub recursion_counts_as_int : list_of (function 1 false types.Void 0 ([]) true (block (cons (return 2 (Some (binary 2 ops.Add (call 2 0 none) (constant 2 1 (form true false 0))))) nil)) ∷ function 3 false types.Int 1 ([]) true (block (cons (return 3 (Some (call 3 0 none))) nil)) ∷ []) (codes "f" ∷ codes "main" ∷ []) (record { returns_to = λ f g. f == 0 && g == 0; is_reached = λ f. false; is_high = λ f. false }) ≡ broken 2 13 ∷ broken 2 14 ∷ broken 3 6 ∷ []
+pub recursion_counts_as_int : list_of (function 1 false types.Void 0 ([]) true (block (cons (return 2 (Some (binary 2 ops.Add (call 2 0 none) (constant 2 1 (form true false 0))))) nil)) ∷ function 3 false types.Int 1 ([]) true (block (cons (return 3 (Some (call 3 0 none))) nil)) ∷ []) (codes "f" ∷ codes "main" ∷ []) (record { returning = (0 ∷ []) ∷ [] ∷ []; reached = []; high = [] }) ≡ broken 2 13 ∷ broken 2 14 ∷ broken 3 6 ∷ []
 unfolding are_one_type constant_value known known_names after after_external type_of faults declarators_faults statement_faults params_faults external_faults externals_faults file_faults file_with
 recursion_counts_as_int = refl
 
@@ -442,7 +442,7 @@ start_routines = refl
 --     void *f(void *a) { h();
 --      pthread_t u; return a; }
 --     int main(void) { pthread_t t; pthread_create(&t, NULL, f, NULL); h(); return 0; }
-pub threads_in_threads : list_of (function 1 false types.Void 0 ([]) true (block (cons (declare (declaration 1 types.Thread (declarator 1 1 None nothing ∷ []))) (cons (eval (call 2 2 (and (object 2 1 whole) (and (constant 2 0 (form false false 0)) none)))) nil))) ∷ function 3 false types.VoidPointer 3 (param 3 types.VoidPointer (Some 4) ∷ []) false (block (cons (eval (call 3 0 none)) (cons (declare (declaration 4 types.Thread (declarator 4 5 None nothing ∷ []))) (cons (return 4 (Some (object 4 4 whole))) nil)))) ∷ function 5 false types.Int 6 ([]) true (block (cons (declare (declaration 5 types.Thread (declarator 5 1 None nothing ∷ []))) (cons (eval (call 5 7 (and (address 5 5 1 whole) (and (null 5) (and (object 5 3 whole) (and (null 5) none)))))) (cons (eval (call 5 0 none)) (cons (return 5 (Some (constant 5 0 (form false false 0)))) nil))))) ∷ []) (codes "h" ∷ codes "t" ∷ codes "pthread_join" ∷ codes "f" ∷ codes "a" ∷ codes "u" ∷ codes "main" ∷ codes "pthread_create" ∷ []) (record { returns_to = λ f g. false; is_reached = λ f. f == 0 || f == 1; is_high = λ f. false }) ≡ broken 1 17 ∷ broken 2 17 ∷ broken 4 17 ∷ []
+pub threads_in_threads : list_of (function 1 false types.Void 0 ([]) true (block (cons (declare (declaration 1 types.Thread (declarator 1 1 None nothing ∷ []))) (cons (eval (call 2 2 (and (object 2 1 whole) (and (constant 2 0 (form false false 0)) none)))) nil))) ∷ function 3 false types.VoidPointer 3 (param 3 types.VoidPointer (Some 4) ∷ []) false (block (cons (eval (call 3 0 none)) (cons (declare (declaration 4 types.Thread (declarator 4 5 None nothing ∷ []))) (cons (return 4 (Some (object 4 4 whole))) nil)))) ∷ function 5 false types.Int 6 ([]) true (block (cons (declare (declaration 5 types.Thread (declarator 5 1 None nothing ∷ []))) (cons (eval (call 5 7 (and (address 5 5 1 whole) (and (null 5) (and (object 5 3 whole) (and (null 5) none)))))) (cons (eval (call 5 0 none)) (cons (return 5 (Some (constant 5 0 (form false false 0)))) nil))))) ∷ []) (codes "h" ∷ codes "t" ∷ codes "pthread_join" ∷ codes "f" ∷ codes "a" ∷ codes "u" ∷ codes "main" ∷ codes "pthread_create" ∷ []) (record { returning = []; reached = true ∷ true ∷ false ∷ []; high = [] }) ≡ broken 1 17 ∷ broken 2 17 ∷ broken 4 17 ∷ []
 unfolding are_one_type constant_value known known_names after after_external type_of faults declarators_faults statement_faults params_faults external_faults externals_faults file_faults file_with
 threads_in_threads = refl
 
@@ -577,7 +577,7 @@ refused_and_other = refl
 --     void f(void) { }
 --     void g(void) { f(); }
 --     int main(void){}
-pub too_high : list_of (function 1 false types.Void 0 ([]) true (block nil) ∷ function 2 false types.Void 1 ([]) true (block (cons (eval (call 2 0 none)) nil)) ∷ function 3 false types.Int 2 ([]) true (block nil) ∷ []) (codes "f" ∷ codes "g" ∷ codes "main" ∷ []) (record { returns_to = λ f g. false; is_reached = λ f. false; is_high = λ f. f == 1 }) ≡ broken 2 26 ∷ []
+pub too_high : list_of (function 1 false types.Void 0 ([]) true (block nil) ∷ function 2 false types.Void 1 ([]) true (block (cons (eval (call 2 0 none)) nil)) ∷ function 3 false types.Int 2 ([]) true (block nil) ∷ []) (codes "f" ∷ codes "g" ∷ codes "main" ∷ []) (record { returning = []; reached = []; high = false ∷ true ∷ false ∷ [] }) ≡ broken 2 26 ∷ []
 unfolding are_one_type constant_value known known_names after after_external type_of faults declarators_faults statement_faults params_faults external_faults externals_faults file_faults file_with
 too_high = refl
 

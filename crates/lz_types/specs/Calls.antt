@@ -7,6 +7,7 @@ use Rattle.lz_tree.specs.declared.scoped.Object.TheVariants.{Local, Cell, Mutex,
 use Rattle.lz_tree.specs.Trees.{TranslationUnit}
 use Rattle.lz_tree.specs.ScopedTrees.{ScopedExpression, constant, null, text, object, address, paren, unary, cast, binary, choose, assign, step, call, Lvalue, lvalue, ScopedIndex, whole, element, ScopedExpressions, none, and, ScopedInitializer, nothing, single, listed, ScopedInitDeclarator, ScopedDeclaration, ScopedStatement, empty, eval, block, declare, when, while, do_while, for, break, continue, return, label, ScopedBranch, absent, branch, ScopedStatements, nil, cons, ScopedDefinition, ScopedProgram}
 use Rattle.lz_types.specs.declared.fault.Fault.{Fault}
+use Rattle.lz_types.specs.Files.{or_false, row_has}
 use Rattle.lz_types.specs.Faults.{file_faults}
 use Rattle.lz_types.specs.ScopedPrograms.{Facts, file_with, scoped_of}
 
@@ -191,21 +192,31 @@ module _ (counts : ℕ → ℕ) where
 abbrev pub body_height_limit : ℕ
 body_height_limit = 1000
 
--- The heights of the functions' bodies: a call through which its function can reach itself counts no body.
-abbrev pub AreHeights : List ScopedDefinition → (ℕ → ℕ → Bool) → (ℕ → ℕ) → Type 0
-AreHeights functions returns_to heights =
+-- What a call of the second of two functions in the first one counts: the height of its body, but nothing where it
+-- comes back to its caller.
+abbrev pub counted_height : List (List ℕ) → (ℕ → ℕ) → ℕ → ℕ → ℕ
+counted_height returning heights f g = if row_has (slice_get returning f) g then 0 else heights g
+
+-- the heights of the functions' bodies: each is that of its body with those that it calls
+abbrev pub AreHeights : List ScopedDefinition → List (List ℕ) → (ℕ → ℕ) → Type 0
+AreHeights functions returning heights =
     (f : ℕ) → (d : ScopedDefinition) → slice_get functions f ≡ Some d
-    → heights f ≡ height_of (λ g. if returns_to f g then 0 else heights g) d.body
+    → heights f ≡ height_of (counted_height returning heights f) d.body
 
 -- ---- facts and faults
 
--- the facts are those of the functions
+-- The facts are those of the functions, and of each function by its number.
 pub record AreFacts (functions : List ScopedDefinition) (facts : Facts) : Type 0 where
-  pub returning : (f g : ℕ) → f < length functions → g < length functions → IsTrue (facts.returns_to f g) ↔ Reaches (graph_of functions) g f
-  pub reached : (f : ℕ) → f < length functions → IsTrue (facts.is_reached f) ↔ ((s : ℕ) × IsStart functions s × Reaches (graph_of functions) s f)
+  -- a function that another calls comes back to it
+  pub returning : (f g : ℕ) → Calls (graph_of functions) f g
+      → IsTrue (row_has (slice_get facts.returning f) g) ↔ Reaches (graph_of functions) g f
+  -- a start routine can reach it, or it is one
+  pub reached : (f : ℕ) → f < length functions
+      → IsTrue (or_false (slice_get facts.reached f)) ↔ ((s : ℕ) × IsStart functions s × Reaches (graph_of functions) s f)
+  -- its body is too high
   pub heights : ℕ → ℕ
-  pub measured : AreHeights functions facts.returns_to heights
-  pub high : (f : ℕ) → f < length functions → facts.is_high f ≡ nat_lt body_height_limit (heights f)
+  pub measured : AreHeights functions facts.returning heights
+  pub high : (f : ℕ) → f < length functions → or_false (slice_get facts.high f) ≡ nat_lt body_height_limit (heights f)
 
 -- The list is that of all rules that the program breaks, in order.
 pub record AreFaults (unit : TranslationUnit) (list : List Fault) : Type 0 where

@@ -20,22 +20,12 @@ use Rattle.lz_types.specs.declared.fault.Rule.TheVariants.{Undeclared, NoFunctio
 use Rattle.lz_types.specs.declared.names.Entry.{Entry}
 use Rattle.lz_types.specs.ValueTypes.{value_type, is_refused, is_pointer, is_thread, is_mutex, is_cond, is_no_operand, kind_of, counted, when, want_of, clash}
 use Rattle.lz_types.specs.Constants.{is_large, has_longs, constant_kind, joint, binary_kind, unary_kind}
+use Rattle.lz_types.specs.Files.{File, function_named, known_at, is_main, returns_to, is_reached}
 use Rattle.lz_types.specs.KnownNames.{wants_of_known, takes_more, is_for_threads, given_by_known}
 use Rattle.lz_types.specs.declared.place.Place.{Place}
 use Rattle.lz_types.specs.Names.{nearest}
-use Rattle.lz_types.specs.Scopes.{Signature, function_named, is_start_at, Named, named, around, called_by}
-
--- What is known of the whole file before it is walked: what its names mean by themselves, which of them is `main`, its
--- functions, and of each by its number whether another one can reach it, whether a start routine can or it is one,
--- and whether its body is too high.
-pub record File : Type 0 where
-  pub known : ℕ → Option KnownName
-  pub is_main : ℕ → Bool
-  pub functions : List Signature
-  -- the second can reach the first
-  pub returns_to : ℕ → ℕ → Bool
-  pub is_reached : ℕ → Bool
-  pub is_high : ℕ → Bool
+use Rattle.lz_types.specs.declared.signature.Signature.{Signature}
+use Rattle.lz_types.specs.Scopes.{is_start_at, Named, named, around, called_by}
 
 -- ---- objects
 
@@ -68,7 +58,7 @@ is_object_of is_of (Some n) = is_of n.of
 
 -- what a called name means at a place, where it means a function
 abbrev pub callee : File → Place → ℕ → Option Object
-callee file place name = called_by (nearest place.names name) (file.known name) (function_named file.functions name)
+callee file place name = called_by (nearest place.names name) (known_at file name) (function_named file.functions name)
 
 abbrev pub params_of : Option Signature → List TypeName
 params_of None = []
@@ -198,17 +188,17 @@ has_rule rule (r ∷ rest) = same_rule rule r || has_rule rule rest
 -- the function around the place is one that a start routine can reach or that is one
 abbrev pub is_in_thread : File → Option ℕ → Bool
 is_in_thread file None = false
-is_in_thread file (Some n) = file.is_reached n
+is_in_thread file (Some n) = is_reached file n
 
 -- the second function can reach the first
 abbrev pub can_return : File → Option ℕ → ℕ → Bool
 can_return file None n = false
-can_return file (Some f) n = file.returns_to f n
+can_return file (Some f) n = returns_to file f n
 
 -- what may be called directly: no start routine and not `main`
 abbrev pub is_only_started : File → Option Signature → Bool
 is_only_started file None = false
-is_only_started file (Some f) = is_start_at (Some f) || file.is_main f.name
+is_only_started file (Some f) = is_start_at (Some f) || is_main file f.name
 
 abbrev pub is_address_place : Want → Bool
 is_address_place (wants.Reference to) = true

@@ -18,8 +18,10 @@ use Rattle.lz_types.specs.Constants.{elements, is_bad_length, is_constant_initia
 use Rattle.lz_types.specs.KnownNames.{is_taken}
 use Rattle.lz_types.specs.declared.place.Place.{Place}
 use Rattle.lz_types.specs.Names.{nearest}
-use Rattle.lz_types.specs.Scopes.{Signature, bases, function_named, is_start, is_start_at, Named, named, is_outside, around, has_object, has_function, with_declarator, with_declarators, with_declaration, with_param, with_params, inside, inside_loop, behind, after, after_branch, after_all, opening, into_body, into, with_function, after_external}
-use Rattle.lz_types.specs.ExpressionTypes.{File, has_index, misuse, callee, wants_of, further_want, first_want, rest_of, count, is_function_name, is_start_place, is_in_thread, type_at, type_of, choice_want, own}
+use Rattle.lz_types.specs.declared.signature.Signature.{Signature}
+use Rattle.lz_types.specs.Scopes.{bases, is_start, is_start_at, Named, named, is_outside, around, has_object, has_function, with_declarator, with_declarators, with_declaration, with_param, with_params, inside, inside_loop, behind, after, after_branch, after_all, opening, into_body, into, with_function, after_external}
+use Rattle.lz_types.specs.Files.{File, function_named, known_at, is_main, is_high}
+use Rattle.lz_types.specs.ExpressionTypes.{has_index, misuse, callee, wants_of, further_want, first_want, rest_of, count, is_function_name, is_start_place, is_in_thread, type_at, type_of, choice_want, own}
 
 -- the rules that are broken at a line
 abbrev pub at : ℕ → List Rule → List Fault
@@ -104,7 +106,7 @@ module _ (file : File) (place : Place) where
 
 -- the name may not be taken for an object, a parameter or a function with a body
 abbrev pub takes_known : File → ℕ → Bool
-takes_known file name = is_taken (file.known name)
+takes_known file name = is_taken (known_at file name)
 
 -- a function of the name stands in the same scope, as at file scope it may
 abbrev pub meets_function : Place → ℕ → Bool
@@ -289,7 +291,7 @@ function_rules file place gives name params =
     ++ (values.when (is_no_operand (value_type gives)) TypeMisfit
     ++ (values.when (is_pointer (value_type gives) && not (is_start_form name gives params)) PointerOutsideStart
     ++ (values.when (is_refused gives) RefusedType
-    ++ values.when (file.is_high place.function) TooHigh))))
+    ++ values.when (is_high file place.function) TooHigh))))
 
 -- the faults of an external declaration
 unfoldable pub external_faults : File → Place → ExternalDeclaration → List Fault
@@ -323,7 +325,7 @@ is_right_main file f = are_one_type f.gives types_int && has_none f.params
 -- the first function that is called `main`
 abbrev pub main_from : File → ℕ → List Signature → Option ℕ
 main_from file n [] = None
-main_from file n (f ∷ rest) = if file.is_main f.name then Some n else main_from file (n + 1) rest
+main_from file n (f ∷ rest) = if is_main file f.name then Some n else main_from file (n + 1) rest
 
 abbrev pub main_in : File → Option Signature → Bool
 main_in file None = false

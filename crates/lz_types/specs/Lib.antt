@@ -1,5 +1,6 @@
 pub mod ValueTypes
 pub mod Constants
+pub mod Files
 pub mod KnownNames
 pub mod Names
 pub mod Scopes

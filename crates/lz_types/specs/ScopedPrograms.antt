@@ -20,37 +20,40 @@ use Rattle.lz_types.specs.Constants.{elements, constant_value, word}
 use Rattle.lz_types.specs.KnownNames.{known}
 use Rattle.lz_types.specs.declared.place.Place.{Place}
 use Rattle.lz_types.specs.Names.{nearest}
-use Rattle.lz_types.specs.Scopes.{Signature, signatures, bases, is_start, inside, inside_loop, behind, after, after_branch, after_all, after_body, with_declarator, with_declaration, into_body, opening, after_external, object_from}
-use Rattle.lz_types.specs.ExpressionTypes.{File, callee, type_of}
+use Rattle.lz_types.specs.declared.signature.Signature.{Signature}
+use Rattle.lz_types.specs.Scopes.{signatures, bases, is_start, inside, inside_loop, behind, after, after_branch, after_all, after_body, with_declarator, with_declaration, into_body, opening, after_external, object_from}
+use Rattle.lz_types.specs.Files.{File}
+use Rattle.lz_types.specs.ExpressionTypes.{callee, type_of}
 use Rattle.lz_types.specs.Faults.{main_from, is_start_form}
 
 -- ---- the file
 
--- the bytes of a name
-abbrev pub name_at : List (List ℕ) → ℕ → List ℕ
-name_at names n = get_or names n []
+-- the number of the first name of these bytes, from a number on
+abbrev pub name_from : ℕ → List (List ℕ) → List ℕ → Option ℕ
+name_from n [] bytes = None
+name_from n (name ∷ rest) bytes = if bytes_eq name bytes then Some n else name_from (n + 1) rest bytes
 
--- What is to be found out about the functions of a file: whether the second can reach the first; whether a start
--- routine can reach one, or it is one; and whether its body is too high.
+-- What is to be found out about the functions of a file, by their numbers: which of those that one calls come back to
+-- it; whether a start routine can reach one, or it is one; and whether its body is too high.
 pub record Facts : Type 0 where
-  pub returns_to : ℕ → ℕ → Bool
-  pub is_reached : ℕ → Bool
-  pub is_high : ℕ → Bool
+  pub returning : List (List ℕ)
+  pub reached : List Bool
+  pub high : List Bool
 
 -- a file with what is known of it
 unfoldable pub file_with : TranslationUnit → Facts → File
 file_with unit facts = record {
-  known = λ n. known (name_at unit.names n);
-  is_main = λ n. bytes_eq (name_at unit.names n) (codes "main");
+  known = map known unit.names;
+  main = name_from 0 unit.names (codes "main");
   functions = signatures unit.externals;
-  returns_to = facts.returns_to;
-  is_reached = facts.is_reached;
-  is_high = facts.is_high;
+  returning = facts.returning;
+  reached = facts.reached;
+  high = facts.high;
 }
 
 -- as of a file in which no function reaches another
 abbrev pub no_facts : Facts
-no_facts = record { returns_to = λ f g. false; is_reached = λ f. false; is_high = λ f. false }
+no_facts = record { returning = []; reached = []; high = [] }
 
 -- ---- expressions
 

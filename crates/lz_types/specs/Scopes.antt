@@ -9,6 +9,7 @@ use Rattle.lz_tree.specs.declared.scoped.KnownName.TheVariants.{ReachError}
 use Rattle.lz_tree.specs.declared.scoped.Object.{Object}
 use Rattle.lz_tree.specs.declared.scoped.Object.TheVariants.{Local, Cell, Mutex, Cond, Handle, Routine, Known}
 use Rattle.lz_tree.specs.Trees.{InitDeclarator, Declaration, Statement, empty, eval, block, declare, when, while, do_while, for, break, continue, return, label, Branch, absent, branch, Statements, nil, cons, ExternalDeclaration, objects, prototype, function}
+use Rattle.lz_types.specs.declared.signature.Signature.{Signature}
 use Rattle.lz_types.specs.declared.names.Entry.{Entry}
 use Rattle.lz_types.specs.declared.place.Counts.{Counts}
 use Rattle.lz_types.specs.declared.place.Place.{Place}
@@ -19,12 +20,6 @@ use Rattle.lz_types.specs.ValueTypes.{value_type, kind_of, are_one_type, is_poin
 use Rattle.lz_types.specs.Constants.{elements}
 
 -- ---- the functions of a file
-
--- A function with a body, as it is declared.
-pub record Signature : Type 0 where
-  pub name : ℕ
-  pub gives : TypeName
-  pub params : List TypeName
 
 abbrev pub bases : List Param → List TypeName
 bases params = map (λ p. p.base) params
@@ -38,15 +33,6 @@ signature_in (function line hidden gives name params void_word body) = record { 
 abbrev pub signatures : List ExternalDeclaration → List Signature
 signatures [] = []
 signatures (e ∷ rest) = signature_in e ++ signatures rest
-
--- the number of the first function of a name, from a number on
-abbrev pub function_from : ℕ → List Signature → ℕ → Option ℕ
-function_from n [] name = None
-function_from n (f ∷ rest) name = if f.name == name then Some n else function_from (n + 1) rest name
-
--- the number of the function of a name: where a file defines two, the first one
-abbrev pub function_named : List Signature → ℕ → Option ℕ
-function_named functions name = function_from 0 functions name
 
 -- the form of a start routine: `void *f(void *a)`
 abbrev pub is_start : Signature → Bool

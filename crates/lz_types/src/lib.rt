@@ -3,14 +3,18 @@
 
 mod constant;
 mod fault;
+mod file;
 mod names;
 mod place;
 mod reserved;
+mod signature;
 mod value_type;
 
 pub use constant::Word;
 pub use fault::{Fault, Rule, TypeError};
 pub use reserved::{is_taken, known};
+pub use file::WholeFile;
 pub use names::{Entry, Functions, Names};
 pub use place::{Counts, Place};
+pub use signature::Signature;
 pub use value_type::{ValueType, Want};
