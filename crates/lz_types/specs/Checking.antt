@@ -1,0 +1,48 @@
+-- Trusted: what a check of a program answers: the first rule that it breaks, or the scoped program.
+use Rattle.std.specs.Prelude.{◌≡◌, ℕ, List, [], ◌∷◌, Result, Ok, Err}
+use Rattle.lz_tree.specs.Trees.{TranslationUnit}
+use Rattle.lz_tree.specs.ScopedTrees.{ScopedProgram}
+use Rattle.lz_types.specs.declared.fault.Fault.{Fault}
+use Rattle.lz_types.specs.declared.fault.Rule.{Rule}
+use Rattle.lz_types.specs.declared.fault.Rule.TheVariants.{Undeclared, DeclaredTwice, NoFunction, ArgumentCount, KnownNameTaken, NoValue, TypeMisfit, BadLength, NotConstant, BadInitializer, LargeConstant, OutsideLoop, BadReturn, Recursive, NoMain, NoStartRoutine, ThreadInThread, PointerOutsideStart, LocalMutex, MisplacedAddress, BadAttribute, MisplacedText, ManyElements, RefusedType, OtherPrototype, TooHigh}
+use Rattle.lz_types.specs.declared.fault.TypeError.{TypeError}
+use Rattle.lz_types.specs.declared.fault.TypeError.TheVariants as errors
+use Rattle.lz_types.specs.ScopedPrograms.{scoped_of}
+use Rattle.lz_types.specs.Calls.{AreFaults}
+
+-- the number of a rule
+abbrev pub number_of : Rule → ℕ
+number_of Undeclared = 1
+number_of DeclaredTwice = 2
+number_of NoFunction = 3
+number_of ArgumentCount = 4
+number_of KnownNameTaken = 5
+number_of NoValue = 6
+number_of TypeMisfit = 7
+number_of BadLength = 8
+number_of NotConstant = 9
+number_of BadInitializer = 10
+number_of LargeConstant = 11
+number_of OutsideLoop = 12
+number_of BadReturn = 13
+number_of Recursive = 14
+number_of NoMain = 15
+number_of NoStartRoutine = 16
+number_of ThreadInThread = 17
+number_of PointerOutsideStart = 18
+number_of LocalMutex = 19
+number_of MisplacedAddress = 20
+number_of BadAttribute = 21
+number_of MisplacedText = 22
+number_of ManyElements = 23
+number_of RefusedType = 24
+number_of OtherPrototype = 25
+number_of TooHigh = 26
+
+-- The answer on a program: its scoped program where it breaks no rule, and otherwise the first rule in the list of
+-- those that it breaks, with its line. Want of memory may be answered at any time.
+abbrev pub Answers : {X : Type 0} → (X → ScopedProgram) → TranslationUnit → Result X TypeError → Type 0
+Answers view unit (Ok x) = AreFaults unit [] × (view x ≡ scoped_of unit)
+Answers view unit (Err (errors.Rule line number)) =
+    (first : Fault) × (rest : List Fault) × AreFaults unit (first ∷ rest) × (line ≡ first.line) × (number ≡ number_of first.rule)
+Answers view unit (Err errors.Memory) = Unit {0}

@@ -1,0 +1,11 @@
+pub mod ValueTypes
+pub mod Constants
+pub mod Files
+pub mod KnownNames
+pub mod Names
+pub mod Scopes
+pub mod ExpressionTypes
+pub mod Faults
+pub mod ScopedPrograms
+pub mod Calls
+pub mod Checking

@@ -1,0 +1,20 @@
+//! The rules of the checked language: what is wrong with a program, and what its names mean (C99 6.2 to 6.9).
+#![tactic(auto)]
+
+mod constant;
+mod fault;
+mod file;
+mod names;
+mod place;
+mod reserved;
+mod signature;
+mod value_type;
+
+pub use constant::Word;
+pub use fault::{Fault, Rule, TypeError};
+pub use reserved::{is_taken, known};
+pub use file::WholeFile;
+pub use names::{Entry, Functions, Names};
+pub use place::{Counts, Place};
+pub use signature::Signature;
+pub use value_type::{ValueType, Want};

@@ -1,0 +1,29 @@
+use crate::names::{Functions, Names};
+use lz_tree::TypeName;
+
+/// How many there are so far: over the whole file of cells, mutexes, conditions and thread objects, in a function
+/// of its locals, and at file scope of elements of all kinds together.
+#[derive(Clone, Copy, Debug, PartialEq, Eq)]
+pub struct Counts {
+    pub cells: u32,
+    pub mutexes: u32,
+    pub conds: u32,
+    pub handles: u32,
+    pub locals: u32,
+    pub elements: u32,
+}
+
+/// Where a node of the text stands: the objects that are declared before it, oldest first and without those of
+/// scopes that have ended; the names of the functions that are declared before it; how deep its scope is, which
+/// is 0 at file scope; the number of its function, at file scope that of the next one, and the type of its
+/// result; whether it is in the body of a loop; and what was counted before it.
+#[derive(Drop)]
+pub struct Place {
+    pub names: Names,
+    pub functions: Functions,
+    pub depth: u32,
+    pub function: u32,
+    pub gives: TypeName,
+    pub in_loop: bool,
+    pub counts: Counts,
+}
