@@ -1,5 +1,5 @@
 -- Items one behind the other with a 0 at their end, as literals and hints stand in a line.
-use Rattle.std.proofs.Common.{◌≡◌, ℕ, List, [], ◌∷◌, ◌++◌, drop, sym, ap, ◌∙◌, append_assoc}
+use Rattle.std.proofs.Common.{refl, ◌≡◌, ℕ, List, [], ◌∷◌, ◌++◌, drop, sym, ap, ◌∙◌, append_assoc}
 use Rattle.std.specs.Prelude.{codes}
 use Rattle.std.specs.List.{All, flat_map}
 use Rattle.std.proofs.lemmas.List.{flat_map_more}
@@ -8,7 +8,7 @@ use Rattle.std.proofs.lemmas.List.Elements.{All-head, All-tail}
 -- the text of an item begins with no 0, and shows where it ends
 pub record IsItemText {X : Type 0} (text : X → List ℕ) (P : X → Type 0) : Type 0 where
   pub not_zero : (x : X) (behind rest : List ℕ) → P x → text x ++ behind ≡ 48 ∷ rest → ⊥
-  pub same_behind : (x y : X) (behind rest : List ℕ) → P x → P y → text x ++ behind ≡ text y ++ rest → behind ≡ rest
+  pub same : (x y : X) (behind rest : List ℕ) → P x → P y → text x ++ behind ≡ text y ++ rest → (x ≡ y) × (behind ≡ rest)
 
 -- an item first, then the others and the 0
 regroup : (one others rest : List ℕ) → ((one ++ others) ++ codes "0") ++ rest ≡ one ++ ((others ++ codes "0") ++ rest)
@@ -23,7 +23,7 @@ items_lead text P is (d ∷ ds) left [] rest hd hw e =
 items_lead text P is (d ∷ ds) left (w ∷ ws) rest hd hw e =
     let a : text d ++ (flat_map text ds ++ left) ≡ text w ++ ((flat_map text ws ++ codes "0") ++ rest) =
     sym (append_assoc (text d) (flat_map text ds) left) ∙ e ∙ regroup (text w) (flat_map text ws) rest in
-    let b = is.same_behind d w (flat_map text ds ++ left) ((flat_map text ws ++ codes "0") ++ rest) (All-head P d ds hd) (All-head P w ws hw) a in
+    let b = (is.same d w (flat_map text ds ++ left) ((flat_map text ws ++ codes "0") ++ rest) (All-head P d ds hd) (All-head P w ws hw) a).1 in
     items_lead text P is ds left ws rest (All-tail P d ds hd) (All-tail P w ws hw) b
 
 -- the 0 ends the items
@@ -48,13 +48,15 @@ items_stop text P is bytes done left e hd no_zero no_item whole rest hw w =
     let m = items_lead text P is done left whole rest hd hw (sym e ∙ w) in
     stop text P left m.0 rest no_zero no_item m.1 m.2
 
-same_end : {X : Type 0} (text : X → List ℕ) (P : X → Type 0) → IsItemText text P → (mid : List ℕ) (more : List X) (rest : List ℕ) → All P more → 48 ∷ mid ≡ (flat_map text more ++ codes "0") ++ rest → mid ≡ rest
-same_end text P is mid [] rest h e = ap (λ (t : List ℕ). drop 1 t) e
-same_end text P is mid (x ∷ xs) rest h e = absurd (is.not_zero x ((flat_map text xs ++ codes "0") ++ rest) mid (All-head P x xs h) (sym (regroup (text x) (flat_map text xs) rest) ∙ sym e))
-
--- the same bytes follow, whichever the items
-pub items_once : {X : Type 0} (text : X → List ℕ) (P : X → Type 0) → IsItemText text P → (bytes : List ℕ) (a b : List X) (mid rest : List ℕ) → All P a → All P b
-    → bytes ≡ (flat_map text a ++ codes "0") ++ mid → bytes ≡ (flat_map text b ++ codes "0") ++ rest → mid ≡ rest
-items_once text P is bytes a b mid rest ha hb ea eb =
-    let m = items_lead text P is a (48 ∷ mid) b rest ha hb (sym (append_assoc (flat_map text a) (codes "0") mid) ∙ sym ea ∙ eb) in
-    same_end text P is mid m.0 rest m.1 m.2
+-- the items at the front are the only ones, and the same bytes follow them
+pub items_once : {X : Type 0} (text : X → List ℕ) (P : X → Type 0) → IsItemText text P → (a b : List X) (mid rest : List ℕ) → All P a → All P b
+    → (flat_map text a ++ codes "0") ++ mid ≡ (flat_map text b ++ codes "0") ++ rest → (a ≡ b) × (mid ≡ rest)
+items_once text P is [] [] mid rest ha hb e = (refl, ap (λ (t : List ℕ). drop 1 t) e)
+items_once text P is [] (y ∷ ys) mid rest ha hb e = absurd (is.not_zero y ((flat_map text ys ++ codes "0") ++ rest) mid (All-head P y ys hb) (sym (regroup (text y) (flat_map text ys) rest) ∙ sym e))
+items_once text P is (x ∷ xs) [] mid rest ha hb e = absurd (is.not_zero x ((flat_map text xs ++ codes "0") ++ mid) rest (All-head P x xs ha) (sym (regroup (text x) (flat_map text xs) mid) ∙ e))
+items_once text P is (x ∷ xs) (y ∷ ys) mid rest ha hb e =
+    let a : text x ++ ((flat_map text xs ++ codes "0") ++ mid) ≡ text y ++ ((flat_map text ys ++ codes "0") ++ rest) =
+    sym (regroup (text x) (flat_map text xs) mid) ∙ e ∙ regroup (text y) (flat_map text ys) rest in
+    let first = is.same x y ((flat_map text xs ++ codes "0") ++ mid) ((flat_map text ys ++ codes "0") ++ rest) (All-head P x xs ha) (All-head P y ys hb) a in
+    let others = items_once text P is xs ys mid rest (All-tail P x xs ha) (All-tail P y ys hb) first.1 in
+    (rw (first.0, others.0) refl, others.1)

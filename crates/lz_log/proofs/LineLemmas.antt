@@ -1,5 +1,5 @@
 -- Literals, hints and lines at the front of bytes.
-use Rattle.std.proofs.Common.{◌≡◌, ℕ, ◌+◌, ◌<◌, ◌≤◌, Bool, true, false, cond, List, [], ◌∷◌, ◌++◌, length, get_or, drop, refl, sym, ap, ◌∙◌, append_assoc, arith, lit≤}
+use Rattle.std.proofs.Common.{inl, inr, not, ◌≡◌, ℕ, ◌+◌, ◌<◌, ◌≤◌, Bool, true, false, cond, List, [], ◌∷◌, ◌++◌, length, get_or, drop, refl, sym, ap, ◌∙◌, append_assoc, arith, lit≤}
 use Rattle.std.specs.Prelude.{codes}
 use Rattle.std.specs.List.{All, flat_map}
 use Rattle.std.specs.Char.{digit_value}
@@ -9,6 +9,7 @@ use Rattle.std.proofs.lemmas.List.{append_cancel_left, append-nil}
 use Rattle.std.proofs.lemmas.List.Elements.{All-head}
 use Rattle.lz_cnf.specs.declared.clause.Lit.{Lit}
 use Rattle.lz_cnf.specs.Models.{variable_of, is_negated}
+use Rattle.lz_cnf.proofs.LitLemmas.{same_variable, is_negated-negated}
 use Rattle.lz_log.specs.declared.log.LogStep.{LogStep}
 use Rattle.lz_log.specs.ProofText.{literal_text, clause_text, hints_text, clause_line, step_line}
 use Rattle.lz_log.specs.ProofReading.{variable_limit, IsWithin, HasHeader, HasClauses, HasSteps, LacksHeader, LacksClause, LacksStep}
@@ -21,11 +22,12 @@ space_stops : 10 ≤ digit_value 32
 space_stops = lit≤ tt
 
 -- two numbers with a space behind them
-same_space : (n m : ℕ) (behind rest : List ℕ) → n < number_cap → m < number_cap → decimal n ++ 32 ∷ behind ≡ decimal m ++ 32 ∷ rest → behind ≡ rest
+same_space : (n m : ℕ) (behind rest : List ℕ) → n < number_cap → m < number_cap → decimal n ++ 32 ∷ behind ≡ decimal m ++ 32 ∷ rest → (n ≡ m) × (behind ≡ rest)
 same_space n m behind rest hn hm e =
     let a : HasNumber (decimal n ++ 32 ∷ behind) (decimal n) n (32 ∷ behind) = record { number_ = decimal_number n hn; stops = space_stops; text = refl } in
     let b : HasNumber (decimal n ++ 32 ∷ behind) (decimal m) m (32 ∷ rest) = record { number_ = decimal_number m hm; stops = space_stops; text = e } in
-    ap (λ (t : List ℕ). drop 1 t) (one_number (decimal n ++ 32 ∷ behind) (decimal n) (decimal m) n m (32 ∷ behind) (32 ∷ rest) a b).1
+    let one = one_number (decimal n ++ 32 ∷ behind) (decimal n) (decimal m) n m (32 ∷ behind) (32 ∷ rest) a b in
+    (one.2, ap (λ (t : List ℕ). drop 1 t) one.1)
 
 first_append : (xs ys : List ℕ) → 0 < length xs → get_or (xs ++ ys) 0 0 ≡ get_or xs 0 0
 first_append [] ys h = absurd (omega arith)
@@ -56,7 +58,7 @@ hint_parts hint behind = append_assoc (decimal hint) (codes " ") behind
 pub hint_is_item : (known : ℕ) → known < number_cap → IsItemText hint_item (IsHint known)
 hint_is_item known small = record {
   not_zero = λ x behind rest h e. (decimal_first x (32 ∷ behind) (let le = h.1 in omega arith)).1 h.0 (ap (λ (t : List ℕ). get_or t 0 0) (sym (hint_parts x behind) ∙ e));
-  same_behind = λ x y behind rest hx hy e. same_space x y behind rest (let le = hx.1 in omega arith) (let le = hy.1 in omega arith) (sym (hint_parts x behind) ∙ e ∙ hint_parts y rest);
+  same = λ x y behind rest hx hy e. same_space x y behind rest (let le = hx.1 in omega arith) (let le = hy.1 in omega arith) (sym (hint_parts x behind) ∙ e ∙ hint_parts y rest);
 }
 
 -- ---- literals
@@ -81,16 +83,31 @@ signed_not_zero false n behind rest some h e = (decimal_first n (32 ∷ behind) 
 not_signed : (n : ℕ) (behind rest : List ℕ) → n < number_cap → decimal n ++ 32 ∷ behind ≡ 45 ∷ rest → ⊥
 not_signed n behind rest h e = let f : get_or (decimal n ++ 32 ∷ behind) 0 0 ≡ 45 = ap (λ (t : List ℕ). get_or t 0 0) e in let g = (decimal_first n (32 ∷ behind) h).0 in omega arith
 
-signed_same : (b d : Bool) (n m : ℕ) (behind rest : List ℕ) → n < number_cap → m < number_cap → sign b ++ (decimal n ++ 32 ∷ behind) ≡ sign d ++ (decimal m ++ 32 ∷ rest) → behind ≡ rest
-signed_same true true n m behind rest hn hm e = same_space n m behind rest hn hm (ap (λ (t : List ℕ). drop 1 t) e)
+signed_same : (b d : Bool) (n m : ℕ) (behind rest : List ℕ) → n < number_cap → m < number_cap → sign b ++ (decimal n ++ 32 ∷ behind) ≡ sign d ++ (decimal m ++ 32 ∷ rest) → (b ≡ d) × (n ≡ m) × (behind ≡ rest)
+signed_same true true n m behind rest hn hm e = let s = same_space n m behind rest hn hm (ap (λ (t : List ℕ). drop 1 t) e) in (refl, s.0, s.1)
 signed_same true false n m behind rest hn hm e = absurd (not_signed m rest (decimal n ++ 32 ∷ behind) hm (sym e))
 signed_same false true n m behind rest hn hm e = absurd (not_signed n behind (decimal m ++ 32 ∷ rest) hn e)
-signed_same false false n m behind rest hn hm e = same_space n m behind rest hn hm e
+signed_same false false n m behind rest hn hm e = let s = same_space n m behind rest hn hm e in (refl, s.0, s.1)
+
+not_both : (a b : Bool) → a ≡ b → a ≡ not b → ⊥
+not_both true true e f = absurd cc
+not_both true false e f = absurd cc
+not_both false true e f = absurd cc
+not_both false false e f = absurd cc
+
+-- a literal is its sign and its variable
+same_literal : (a b : Lit) → is_negated a ≡ is_negated b → variable_of a ≡ variable_of b → a ≡ b
+same_literal a b s v = elim (same_variable a b v) [
+  | inl e ↦ e
+  | inr e ↦ absurd (not_both (is_negated a) (is_negated b) s (ap (λ l. is_negated l) e ∙ is_negated-negated b))
+]
 
 pub literal_is_item : (variables : ℕ) → variables ≤ variable_limit → IsItemText literal_item (IsOf variables)
 literal_is_item variables small = record {
   not_zero = λ x behind rest h e. signed_not_zero (is_negated x) (variable_of x + 1) behind rest (omega arith) (omega arith) (sym (literal_parts x behind) ∙ e);
-  same_behind = λ x y behind rest hx hy e. signed_same (is_negated x) (is_negated y) (variable_of x + 1) (variable_of y + 1) behind rest (omega arith) (omega arith) (sym (literal_parts x behind) ∙ e ∙ literal_parts y rest);
+  same = λ x y behind rest hx hy e.
+      let s = signed_same (is_negated x) (is_negated y) (variable_of x + 1) (variable_of y + 1) behind rest (omega arith) (omega arith) (sym (literal_parts x behind) ∙ e ∙ literal_parts y rest) in
+      (same_literal x y s.0 (let v = s.1 in omega arith), s.2);
 }
 
 signed_behind : (b : Bool) (n : ℕ) (behind rest : List ℕ) → n < number_cap → 45 ∷ behind ≡ sign b ++ (decimal n ++ 32 ∷ rest) → behind ≡ decimal n ++ 32 ∷ rest
@@ -119,16 +136,18 @@ no_hints bytes known done left small front within no_zero none hints rest h =
     items_stop hint_item (IsHint known) (hint_is_item known small) bytes done left front within no_zero
     (λ n r v e. none n r record { low_ = v.0; high_ = v.1; text = e ∙ hint_parts n r }) hints rest h.known_ h.text
 
--- the same bytes follow the literals at the front, whichever these are
-literals_once : (bytes : List ℕ) (variables : ℕ) (a b : List Lit) (mid rest : List ℕ) → variables ≤ variable_limit → HasLiterals bytes variables a mid → HasLiterals bytes variables b rest → mid ≡ rest
-literals_once bytes variables a b mid rest small ha hb = items_once literal_item (IsOf variables) (literal_is_item variables small) bytes a b mid rest ha.within hb.within ha.text hb.text
+-- the literals at the front are the only ones
+pub literals_once : (bytes : List ℕ) (variables : ℕ) (a b : List Lit) (mid rest : List ℕ) → variables ≤ variable_limit → HasLiterals bytes variables a mid → HasLiterals bytes variables b rest → (a ≡ b) × (mid ≡ rest)
+literals_once bytes variables a b mid rest small ha hb = items_once literal_item (IsOf variables) (literal_is_item variables small) a b mid rest ha.within hb.within (sym ha.text ∙ hb.text)
 
-hints_once : (bytes : List ℕ) (known : ℕ) (a b : List ℕ) (mid rest : List ℕ) → known < number_cap → HasHints bytes known a mid → HasHints bytes known b rest → mid ≡ rest
-hints_once bytes known a b mid rest small ha hb = items_once hint_item (IsHint known) (hint_is_item known small) bytes a b mid rest ha.known_ hb.known_ ha.text hb.text
+-- the hints at the front are the only ones
+pub hints_once : (bytes : List ℕ) (known : ℕ) (a b : List ℕ) (mid rest : List ℕ) → known < number_cap → HasHints bytes known a mid → HasHints bytes known b rest → (a ≡ b) × (mid ≡ rest)
+hints_once bytes known a b mid rest small ha hb = items_once hint_item (IsHint known) (hint_is_item known small) a b mid rest ha.known_ hb.known_ (sym ha.text ∙ hb.text)
 
 -- ---- lines
 
-clause_line_parts : (bytes : List ℕ) (variables : ℕ) (clause : List Lit) (rest : List ℕ) → HasClauses bytes variables (clause ∷ []) rest → HasLiterals bytes variables clause (10 ∷ rest)
+-- the literals of a clause's line
+pub clause_line_parts : (bytes : List ℕ) (variables : ℕ) (clause : List Lit) (rest : List ℕ) → HasClauses bytes variables (clause ∷ []) rest → HasLiterals bytes variables clause (10 ∷ rest)
 clause_line_parts bytes variables clause rest h = record {
   within = All-head (IsWithin variables) clause [] h.within;
   text = h.text ∙ ap (λ (t : List ℕ). t ++ rest) (append-nil (clause_line clause)) ∙ append_assoc (clause_text clause) (codes "\n") rest;
@@ -140,10 +159,10 @@ no_clause bytes variables none clause rest h = none clause (10 ∷ rest) (clause
 
 -- literals with no newline behind them, no line of a clause
 pub no_clause_end : (bytes : List ℕ) (variables : ℕ) (clause : List Lit) (mid : List ℕ) → variables ≤ variable_limit → HasLiterals bytes variables clause mid → ((r : List ℕ) → mid ≡ 10 ∷ r → ⊥) → LacksClause bytes variables
-no_clause_end bytes variables clause mid small has none other rest h = none rest (literals_once bytes variables clause other mid (10 ∷ rest) small has (clause_line_parts bytes variables other rest h))
+no_clause_end bytes variables clause mid small has none other rest h = none rest (literals_once bytes variables clause other mid (10 ∷ rest) small has (clause_line_parts bytes variables other rest h)).1
 
 -- five pieces and what follows, from the right
-five : (a b c d e rest : List ℕ) → (a ++ b ++ c ++ d ++ e) ++ rest ≡ a ++ (b ++ (c ++ (d ++ (e ++ rest))))
+pub five : (a b c d e rest : List ℕ) → (a ++ b ++ c ++ d ++ e) ++ rest ≡ a ++ (b ++ (c ++ (d ++ (e ++ rest))))
 five a b c d e rest =
     append_assoc (a ++ b ++ c ++ d) e rest ∙ append_assoc (a ++ b ++ c) d (e ++ rest) ∙ append_assoc (a ++ b) c (d ++ (e ++ rest)) ∙ append_assoc a b (c ++ (d ++ (e ++ rest)))
 
@@ -154,7 +173,7 @@ step_behind bytes mid behind variables known clause small front has step rest h 
     let whole : bytes ≡ codes "l " ++ (clause_text step.clause ++ 32 ∷ (hints_text step.hints ++ 10 ∷ rest)) =
     h.text ∙ ap (λ (t : List ℕ). t ++ rest) (append-nil (step_line step)) ∙ five (codes "l ") (clause_text step.clause) (codes " ") (hints_text step.hints) (codes "\n") rest in
     let at : mid ≡ clause_text step.clause ++ 32 ∷ (hints_text step.hints ++ 10 ∷ rest) = append_cancel_left (codes "l ") _ _ (sym front ∙ whole) in
-    literals_once mid variables clause step.clause behind (32 ∷ (hints_text step.hints ++ 10 ∷ rest)) small has record { within = h.in_order.0.clause; text = at }
+    (literals_once mid variables clause step.clause behind (32 ∷ (hints_text step.hints ++ 10 ∷ rest)) small has record { within = h.in_order.0.clause; text = at }).1
 
 -- no space behind the literals, no line of a step
 pub no_step_space : (bytes mid behind : List ℕ) (variables known : ℕ) (clause : List Lit) → variables ≤ variable_limit → bytes ≡ codes "l " ++ mid → HasLiterals mid variables clause behind
@@ -178,7 +197,7 @@ no_step_hints bytes mid behind last variables known clause small front has space
 pub no_step_end : (bytes mid behind last end_ : List ℕ) (variables known : ℕ) (clause : List Lit) (hints : List ℕ) → variables ≤ variable_limit → known < number_cap → bytes ≡ codes "l " ++ mid → HasLiterals mid variables clause behind → behind ≡ 32 ∷ last
     → HasHints last known hints end_ → ((r : List ℕ) → end_ ≡ 10 ∷ r → ⊥) → LacksStep bytes variables known
 no_step_end bytes mid behind last end_ variables known clause hints small fits front has space told none step rest h =
-    none rest (hints_once last known hints step.hints end_ (10 ∷ rest) fits told (step_hints bytes mid behind last variables known clause small front has space step rest h))
+    none rest (hints_once last known hints step.hints end_ (10 ∷ rest) fits told (step_hints bytes mid behind last variables known clause small front has space step rest h)).1
 
 -- ---- the first line
 

@@ -1,6 +1,7 @@
 -- Inner: What stands at the front of bytes: literals, hints and whole lines.
-use Rattle.std.specs.Prelude.{◌≡◌, ℕ, ◌+◌, ◌<◌, List, [], ◌++◌, length, codes, ⊤}
+use Rattle.std.specs.Prelude.{◌≡◌, ℕ, ◌+◌, ◌<◌, List, [], ◌++◌, length, codes, Result, Ok, Err, ⊤}
 use Rattle.lz_cnf.specs.declared.clause.Lit.{Lit}
+use Rattle.lz_cnf.specs.declared.clause.Cnf.{Cnf}
 use Rattle.lz_cnf.specs.Models.{variable_of}
 use Rattle.lz_log.specs.declared.log.LogStep.{LogStep}
 use Rattle.lz_log.specs.declared.lines.Unread.{Unread}
@@ -64,3 +65,8 @@ IsAt bad errors.Memory = ⊤
 abbrev pub error_at : ℕ → Unread → ProofError
 error_at line unread.NoReading = errors.Bad line
 error_at line unread.Memory = errors.Memory
+
+-- what was read is this formula and this log, unless memory was wanting
+abbrev pub ReadsBack : Cnf → List LogStep → Result (Cnf × List LogStep) ProofError → Type 0
+ReadsBack formula log (Ok r) = (r.0 ≡ formula) × (r.1 ≡ log)
+ReadsBack formula log (Err e) = e ≡ errors.Memory

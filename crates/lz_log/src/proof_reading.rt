@@ -2,7 +2,9 @@
 
 ghost use Rattle.std.specs.Prelude.{◌≡◌, ℕ, ◌+◌, ◌<◌, ◌≤◌, ◌^◌, List, [], length, MatchResult};
 ghost use Rattle.lz_log.specs.ProofReading.{HasClauses, HasSteps, IsFirstBadLine, IsProofText, variable_limit};
-ghost use Rattle.lz_log.specs.Lines.{error_at, IsAt, IsBadClause, IsBadStep};
+ghost use Rattle.lz_cnf.specs.declared.clause.Cnf.{Cnf};
+ghost use Rattle.lz_log.specs.declared.log.LogStep.{LogStep};
+ghost use Rattle.lz_log.specs.Lines.{ReadsBack, error_at, IsAt, IsBadClause, IsBadStep};
 
 use crate::lines::{Unread, clause_line, header, step_line};
 use crate::log::Log;
@@ -92,14 +94,10 @@ fn read_steps(alloc: Global, bytes: &[u8], variables: u32, known: u32) -> Result
     Ok(log)
 }
 
-/// Reads a text that `print_proof` writes, of fewer than 2^32 bytes, in time linear in them. Any other bytes are answered
-/// with the first line that says nothing; where the first line or the line of a clause is missing, that is the line behind
-/// the last.
-pub fn read_proof(alloc: Global, bytes: &[u8]) -> Result<(Cnf, Log), ProofError>
+/// Reads a first line, the lines of as many clauses as it tells of, and lines of steps up to the end.
+fn read_lines(alloc: Global, bytes: &[u8]) -> Result<(Cnf, Log), ProofError>
     requires { length bytes.now < 2 ^ 32 }
-    ensures { MatchResult result
-        (λ r. IsProofText bytes.now r.0 r.1)
-        (IsAt (IsFirstBadLine bytes.now)) }
+    ensures { MatchResult result (λ r. IsProofText bytes.now r.0 r.1) (IsAt (IsFirstBadLine bytes.now)) }
 {
     let Some((variables, told, rest)) = header(bytes) else {
         return Err(ProofError::Bad { line: 1 });
@@ -107,4 +105,16 @@ pub fn read_proof(alloc: Global, bytes: &[u8]) -> Result<(Cnf, Log), ProofError>
     let (clauses, rest) = read_clauses(alloc, rest, variables, told)?;
     let log = read_steps(alloc, rest, variables, clauses.items().len() as u32)?;
     Ok((Cnf { variables, clauses }, log))
+}
+
+/// Reads a text that `print_proof` writes, of fewer than 2^32 bytes, in time linear in them. Any other bytes are answered
+/// with the first line that says nothing; where the first line or the line of a clause is missing, that is the line behind
+/// the last.
+pub fn read_proof(alloc: Global, bytes: &[u8]) -> Result<(Cnf, Log), ProofError>
+    requires { length bytes.now < 2 ^ 32 }
+    ensures exact { MatchResult result (λ r. IsProofText bytes.now r.0 r.1) (IsAt (IsFirstBadLine bytes.now)) }
+    // The text of a formula and a log is read back, unless memory is wanting.
+    ensures back { (formula : Cnf) (log : List LogStep) → IsProofText bytes.now formula log → ReadsBack formula log result }
+{
+    read_lines(alloc, bytes)
 }
