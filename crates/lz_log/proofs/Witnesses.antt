@@ -1,11 +1,10 @@
 -- What the definitions of models, refutation and newness say, on small formulas and logs.
-use Rattle.std.proofs.Common.{◌≡◌, ℕ, zero, suc, ◌<◌, ◌⊎◌, inl, inr, ⊎_elim, Bool, true, false, List, [], ◌∷◌, length, get_or, refl, sym, ◌∙◌, ap, subst, arith}
+use Rattle.std.proofs.Common.{◌≡◌, ℕ, zero, suc, ◌<◌, ◌⊎◌, inl, ⊎_elim, true, false, List, [], ◌∷◌, refl, sym, ◌∙◌, ap, subst, arith}
 use Rattle.std.specs.List.{All, Any, Contains}
-use Rattle.std.proofs.lemmas.List.Elements.{All-contains}
 use Rattle.lz_cnf.specs.declared.clause.Lit.{Lit}
 use Rattle.lz_cnf.specs.declared.clause.Cnf.{Cnf}
-use Rattle.lz_cnf.specs.Models.{IsTrueLit, IsModel, HasModel, negated}
-use Rattle.lz_cnf.specs.Partial.{IsFalseLit, IsUnassigned, IsOpen}
+use Rattle.lz_cnf.specs.Models.{IsTrueLit, IsModel, HasModel}
+use Rattle.lz_cnf.specs.Partial.{IsFalseLit, IsOpen}
 use Rattle.lz_log.specs.declared.log.LogStep.{LogStep}
 use Rattle.lz_log.specs.Refutation.{IsByHints, Refutes}
 use Rattle.lz_log.specs.Newness.{IsNewClause, IsNewStep}

@@ -76,3 +76,124 @@ fn prints_a_proof(rt: HostRuntime) -> Result<(), Fail> {
     );
     Ok(())
 }
+
+/// Texts, each with what reading it and checking its log answers: a line that says nothing, a step that does not follow,
+/// or neither.
+#[test]
+fn reads_a_proof(rt: HostRuntime) -> Result<(), Fail> {
+    let rows: [(&str, &[u8], Read); 19] = [
+        (
+            "both clauses refute",
+            b"p cnf 1 2\n1 0\n-1 0\nl 0 1 2 0\n",
+            Read::Refuted,
+        ),
+        (
+            "one clause does not",
+            b"p cnf 1 2\n1 0\n-1 0\nl 0 1 0\n",
+            Read::BadStep(0),
+        ),
+        ("no step", b"p cnf 1 2\n1 0\n-1 0\n", Read::BadStep(0)),
+        ("a clause is missing", b"p cnf 1 2\n1 0\n", Read::BadLine(3)),
+        ("nothing", b"", Read::BadLine(1)),
+        (
+            "no number of clauses",
+            b"p cnf 1\n1 0\n-1 0\n",
+            Read::BadLine(1),
+        ),
+        (
+            "a variable too many",
+            b"p cnf 1 2\n2 0\n-1 0\n",
+            Read::BadLine(2),
+        ),
+        (
+            "a step that names itself",
+            b"p cnf 1 2\n1 0\n-1 0\nl 0 1 3 0\n",
+            Read::BadLine(4),
+        ),
+        (
+            "a leading zero",
+            b"p cnf 1 2\n01 0\n-1 0\n",
+            Read::BadLine(2),
+        ),
+        ("two spaces", b"p cnf 1 2\n1  0\n-1 0\n", Read::BadLine(2)),
+        (
+            "a trailing space",
+            b"p cnf 1 2\n1 0 \n-1 0\n",
+            Read::BadLine(2),
+        ),
+        (
+            "a minus sign alone",
+            b"p cnf 1 2\n- 0\n-1 0\n",
+            Read::BadLine(2),
+        ),
+        (
+            "a literal 0 of a sign",
+            b"p cnf 1 2\n-0\n-1 0\n",
+            Read::BadLine(2),
+        ),
+        (
+            "the last newline is missing",
+            b"p cnf 1 2\n1 0\n-1 0\nl 0 1 2 0",
+            Read::BadLine(4),
+        ),
+        (
+            "an empty line at the end",
+            b"p cnf 1 2\n1 0\n-1 0\nl 0 1 2 0\n\n",
+            Read::BadLine(5),
+        ),
+        (
+            "a variable past every number",
+            b"p cnf 1 1\n99999999999999999999999999 0\n",
+            Read::BadLine(2),
+        ),
+        (
+            "more clauses than any text has",
+            b"p cnf 1 99999999999999999999999999\n1 0\n",
+            Read::BadLine(3),
+        ),
+        (
+            "a variable past the limit",
+            b"p cnf 2147483648 0\n",
+            Read::BadLine(1),
+        ),
+        (
+            "as many variables as may be",
+            b"p cnf 2147483647 0\n",
+            Read::BadStep(0),
+        ),
+    ];
+    for (reason, text, wanted) in rows {
+        let found = read_and_check(rt.alloc(), text)?;
+        assert_eq!(rt; found, wanted, "{reason}");
+    }
+    Ok(())
+}
+
+/// What reading a text and checking its log answers.
+#[derive(Clone, Copy, Debug, PartialEq, Eq)]
+enum Read {
+    Refuted,
+    BadLine(u32),
+    BadStep(u64),
+}
+
+/// Reads a text and checks its log.
+fn read_and_check(alloc: Global, text: &[u8]) -> Result<Read, Fail> {
+    if text.len() > 1_000_000 {
+        return Err("too long".into());
+    }
+    match read_proof(alloc, text) {
+        Err(ProofError::Bad { line }) => Ok(Read::BadLine(line)),
+        Err(ProofError::Memory) => Err("memory".into()),
+        Ok((formula, log)) => {
+            if formula.variables > 1_000_000 {
+                return Ok(Read::BadStep(0));
+            }
+            let mut scratch = Scratch::new(alloc, formula.variables).ok().ok_or("memory")?;
+            match check_log(&formula, &log, &mut scratch) {
+                Ok(()) => Ok(Read::Refuted),
+                Err(bad) => Ok(Read::BadStep(bad.index)),
+            }
+        }
+    }
+}
