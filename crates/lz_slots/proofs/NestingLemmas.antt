@@ -2,6 +2,7 @@
 use Rattle.std.proofs.Common.{◌≡◌, ℕ, zero, suc, ◌+◌, ◌<◌, ◌≤◌, ◌⊎◌, inl, inr, List, [], ◌∷◌, length, get_or, set, get_or-set_same, get_or-set_other, slice_index, refl, ap, sym, ◌∙◌, subst, arith, ◌≢◌, map}
 use Rattle.std.specs.List.{All}
 use Rattle.std.proofs.lemmas.Bool.{cases_eq, cases_lt}
+use Rattle.std.proofs.lemmas.List.{get_or_past}
 use Rattle.std.proofs.lemmas.List.Elements.{All-contains}
 use Rattle.lz_tree.specs.ScopedTrees.{ScopedStatement, empty, ScopedDefinition}
 use Rattle.lz_tree.specs.Calls.{statement_calls, body_at, StandsBefore, IsCallOrder}
@@ -25,9 +26,9 @@ settled o l (suc most) i zero low deep within = absurd (omega arith)
 settled {functions = functions} {order = order} {step = step} o l (suc most) i (suc depth) low deep within =
     l.same (through_calls step depth) (through_calls step (suc depth)) (slice_index order i) (record {
       at = λ y called.
-      let stands : StandsBefore order i y = All-contains (StandsBefore order i) (calls_of functions (slice_index order i)) y (o.behind i within) called in
-      let before : stands.0 < i = stands.1 in
-      subst (λ (z : ℕ). through_calls step depth z ≡ through_calls step (suc depth) z) stands.2 (settled o l most stands.0 depth (omega arith) (omega arith) (omega arith));
+          let stands : StandsBefore order i y = All-contains (StandsBefore order i) (calls_of functions (slice_index order i)) y (o.behind i within) called in
+          let before : stands.0 < i = stands.1 in
+          subst (λ (z : ℕ). through_calls step depth z ≡ through_calls step (suc depth) z) stands.2 (settled o l most stands.0 depth (omega arith) (omega arith) (omega arith));
     })
 
 -- The numbers of the functions that stand before the place `i` of the order are known, up to the greatest.
@@ -46,10 +47,10 @@ worth o l zero i numbers count within known = absurd (omega arith)
 worth {functions = functions} {order = order} {step = step} o l (suc n) i numbers count within known =
     l.alike (slice_index numbers) (through_calls step n) (slice_index order i) (record {
       at = λ y called.
-      let stands : StandsBefore order i y = All-contains (StandsBefore order i) (calls_of functions (slice_index order i)) y (o.behind i within) called in
-      let before : stands.0 < i = stands.1 in
-      let steady : through_calls step n (slice_index order stands.0) ≡ through_calls step (suc n) (slice_index order stands.0) = settled o l (suc n) stands.0 n (omega arith) (omega arith) (omega arith) in
-      subst (λ (z : ℕ). saturated (slice_index numbers z) ≡ saturated (through_calls step n z)) stands.2 (saturated_twice _ _ _ (known.known stands.0 before) steady);
+          let stands : StandsBefore order i y = All-contains (StandsBefore order i) (calls_of functions (slice_index order i)) y (o.behind i within) called in
+          let before : stands.0 < i = stands.1 in
+          let steady : through_calls step n (slice_index order stands.0) ≡ through_calls step (suc n) (slice_index order stands.0) = settled o l (suc n) stands.0 n (omega arith) (omega arith) (omega arith) in
+          subst (λ (z : ℕ). saturated (slice_index numbers z) ≡ saturated (through_calls step n z)) stands.2 (saturated_twice _ _ _ (known.known stands.0 before) steady);
     })
 
 -- one turn
@@ -59,18 +60,13 @@ numbers_turn {functions = functions} {order = order} {step = step} o l i numbers
     let right : value ≡ saturated (exact (slice_index order i)) = is ∙ worth o l (length functions) i numbers (sym o.whole) within known in
     record {
       known = λ j low.
-      elim (cases_eq (slice_index order j) (slice_index order i)) [
-        inl same ↦ rw same (get_or-set_same numbers (slice_index order i) value 0 inside ∙ right)
-      | inr other ↦
-        get_or-set_other numbers (slice_index order i) (slice_index order j) value 0 other
-        ∙ known.known j (elim (cases_eq j i) [ inl here ↦ absurd (other (ap (slice_index order) here)) | inr apart ↦ omega arith ])
-      ];
+          elim (cases_eq (slice_index order j) (slice_index order i)) [
+            | inl same ↦ rw same (get_or-set_same numbers (slice_index order i) value 0 inside ∙ right)
+            | inr other ↦
+                get_or-set_other numbers (slice_index order i) (slice_index order j) value 0 other
+                ∙ known.known j (elim (cases_eq j i) [ inl here ↦ absurd (other (ap (slice_index order) here)) | inr apart ↦ omega arith ])
+          ];
     }
-
-none_past : (numbers : List ℕ) (f : ℕ) → length numbers ≤ f → slice_index numbers f ≡ 0
-none_past [] f past = refl
-none_past (x ∷ rest) zero past = absurd (omega arith)
-none_past (x ∷ rest) (suc f) past = none_past rest f (omega arith)
 
 zero_past : {functions : List ScopedDefinition} {step : (ℕ → ℕ) → ℕ → ℕ} → IsLocal functions step → (n f : ℕ) → length functions ≤ f → through_calls step n f ≡ 0
 zero_past l zero f past = refl
@@ -80,11 +76,11 @@ zero_past l (suc n) f past = l.beyond _ f past
 pub numbers_end : {functions : List ScopedDefinition} {order : List ℕ} {step : (ℕ → ℕ) → ℕ → ℕ} → IsCallOrder functions order → IsLocal functions step → (i : ℕ) (numbers : List ℕ) → i ≡ length order → length numbers ≡ length functions → AreNumbers order (through_calls step (length functions)) i numbers → (f : ℕ) → slice_index numbers f ≡ saturated (through_calls step (length functions) f)
 numbers_end {functions = functions} {order = order} {step = step} o l i numbers end count known f =
     elim (cases_lt f (length functions)) [
-      inl low ↦
-      let stands : StandsBefore order (length order) f = o.all f low in
-      let before : stands.0 < length order = stands.1 in
-      subst (λ (z : ℕ). slice_index numbers z ≡ saturated (through_calls step (length functions) z)) stands.2 (known.known stands.0 (omega arith))
-    | inr past ↦ none_past numbers f (omega arith) ∙ ap saturated (sym (zero_past l (length functions) f past))
+      | inl low ↦
+          let stands : StandsBefore order (length order) f = o.all f low in
+          let before : stands.0 < length order = stands.1 in
+          subst (λ (z : ℕ). slice_index numbers z ≡ saturated (through_calls step (length functions) z)) stands.2 (known.known stands.0 (omega arith))
+      | inr past ↦ get_or_past numbers f 0 (omega arith) ∙ ap saturated (sym (zero_past l (length functions) f past))
     ]
 
 -- steps that stop alike give numbers that stop alike

@@ -3,11 +3,13 @@
 #![tactic(auto)]
 
 mod costs;
+mod program;
 mod saturate;
 mod sites;
 mod table;
 
 pub use costs::{Rates, number_at, statement_cost};
+pub use program::{cost, slots};
 pub use saturate::{plus, times};
 pub use sites::{SiteRates, SiteWeight, statement_sites};
 pub use table::{
