@@ -5,14 +5,8 @@ use Rattle.lz_base.specs.declared.word.BreakKind.{BreakKind}
 use Rattle.lz_base.specs.declared.word.BreakKind.TheVariants as kinds
 use Rattle.lz_model.specs.declared.actions.Action.{Action}
 use Rattle.lz_model.specs.declared.actions.Action.TheVariants.{Loc, Input, Check, Assume, Rd, Wr, Reset, Lock, Unlock, Park, Wake, Signal, Broadcast, Create, Join, HoldOn, HoldOff, End}
+use Rattle.lz_model.specs.declared.thread_state.ThreadState.{ThreadState}
 use Rattle.lz_model.specs.Actions.{is_shared}
-
--- What is kept of a thread that was made: the condition on which it waits, whether it has ended, and whether it
--- was joined.
-pub record Thread : Type 0 where
-  pub waits : Option ℕ
-  pub ended : Bool
-  pub joined : Bool
 
 -- The shared state: the value of each cell; the owner of each mutex; the threads that were made, by their
 -- numbers, so that thread 0 is one of them from the beginning; the holder of the atomic section; and whether the
@@ -20,12 +14,12 @@ pub record Thread : Type 0 where
 pub record State : Type 0 where
   pub cells : List ℕ
   pub owners : List (Option ℕ)
-  pub threads : List Thread
+  pub threads : List ThreadState
   pub holder : Option ℕ
   pub over : Bool
 
 -- a thread that was just made
-abbrev pub fresh : Thread
+abbrev pub fresh : ThreadState
 fresh = record { waits = None; ended = false; joined = false }
 
 -- the state in which a process with these first values of its cells and so many mutexes begins
@@ -43,14 +37,14 @@ is_now (Some other) number = other == number
 abbrev pub is_made : State → ℕ → Bool
 is_made state thread = nat_lt thread (length state.threads)
 
-abbrev pub thread_at : State → ℕ → Thread
+abbrev pub thread_at : State → ℕ → ThreadState
 thread_at state thread = slice_index_or state.threads thread fresh
 
 abbrev pub owner_of : State → ℕ → Option ℕ
 owner_of state mutex = slice_index_or state.owners mutex None
 
 -- the thread waits on the condition
-abbrev pub waits_on : ℕ → Thread → Bool
+abbrev pub waits_on : ℕ → ThreadState → Bool
 waits_on cond thread = is_now thread.waits cond
 
 -- there is a number
@@ -59,7 +53,7 @@ is_any None = false
 is_any (Some number) = true
 
 -- the thread waits on some condition
-abbrev pub is_waiting : Thread → Bool
+abbrev pub is_waiting : ThreadState → Bool
 is_waiting thread = is_any thread.waits
 
 -- some thread waits on the condition
@@ -78,15 +72,15 @@ is_free state mutex = not (is_any (owner_of state mutex))
 abbrev pub with_owner : State → ℕ → Option ℕ → State
 with_owner state mutex owner = record state { owners = slice_set state.owners mutex owner }
 
-abbrev pub with_thread : State → ℕ → Thread → State
+abbrev pub with_thread : State → ℕ → ThreadState → State
 with_thread state number thread = record state { threads = slice_set state.threads number thread }
 
 -- the thread waits on no condition
-abbrev pub awake : Thread → Thread
+abbrev pub awake : ThreadState → ThreadState
 awake thread = record thread { waits = None }
 
 -- the thread does not wait where it waited on this condition
-abbrev pub woken_from : ℕ → Thread → Thread
+abbrev pub woken_from : ℕ → ThreadState → ThreadState
 woken_from cond thread = if waits_on cond thread then awake thread else thread
 
 -- ---- what an action comes to
@@ -129,6 +123,10 @@ joins state thread =
     if thread == 0 || (not (is_made state thread) || (thread_at state thread).joined) then broke kinds.Join
     else goes_where (thread_at state thread).ended (with_thread state thread (record (thread_at state thread) { joined = true }))
 
+-- the creation of a thread goes where it has the next number
+abbrev pub creates : State → ℕ → Acted
+creates state thread = goes_where (thread == length state.threads) (record state { threads = state.threads ++ fresh ∷ [] })
+
 -- what an action comes to, of a thread that is neither halted nor kept out by the holder
 abbrev pub act_free : State → ℕ → Action → Acted
 act_free state thread Loc = went state
@@ -149,8 +147,7 @@ act_free state thread (Wake cond mutex) =
     goes_where (not (is_waiting (thread_at state thread)) && is_free state mutex) (with_owner state mutex (Some thread))
 act_free state thread (Signal cond woken) = signals state cond woken
 act_free state thread (Broadcast cond) = went (record state { threads = map (woken_from cond) state.threads })
-act_free state thread (Create number start value) =
-    goes_where (number == length state.threads) (record state { threads = state.threads ++ fresh ∷ [] })
+act_free state thread (Create number start value) = creates state number
 act_free state thread (Join number) = joins state number
 act_free state thread HoldOn = went (record state { holder = Some thread })
 act_free state thread HoldOff = went (if is_now state.holder thread then record state { holder = None } else state)

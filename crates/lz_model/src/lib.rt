@@ -7,9 +7,11 @@
 pub mod action;
 mod actions;
 mod schedule;
+mod thread_state;
 
 pub use actions::{Action, Event};
 pub use schedule::{Schedule, Step, rounds};
+pub use thread_state::ThreadState;
 
 #[cfg(test)]
 mod tests;
