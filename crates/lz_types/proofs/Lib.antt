@@ -1,3 +1,4 @@
+mod MeaningLemmas
 mod NamesLemmas
 mod Witnesses
 mod ScopedWitnesses

@@ -107,29 +107,47 @@ meant = record {
   conds = 0;
   handles = 5;
   functions =
-    record { start = false; locals = 7; params = kinds.Int ∷ kinds.Unsigned ∷ []; gives = signed; body = scoped.block (scoped.cons
-      (declares 3 (declared 3 b0 (Some (scoped.constant 3 2 (form true false 0) signed)) scoped.nothing ∷ [])) (scoped.cons
-      (scoped.block (scoped.cons (declares 3 (declared 3 c0 None (scoped.single (scoped.object (whole_of 3 n0) signed)) ∷ [])) scoped.nil)) (scoped.cons
-      (scoped.for 3 (declares 3 (declared 3 i0 None (scoped.single (scoped.constant 3 0 (form false false 0) signed)) ∷ []))
-        (Some (scoped.binary 3 ops.Lt (scoped.object (whole_of 3 i0) signed) (scoped.constant 3 1 (form true false 0) signed) signed))
-        (Some (scoped.step 3 (whole_of 3 i0) true false signed))
-        (declares 3 (declared 3 d0 None scoped.nothing ∷ []))) (scoped.cons
-      (scoped.return 3 (Some (scoped.object (element_of 3 b0 (scoped.object (whole_of 3 k0) unsigned)) signed))) scoped.nil)))) }
-    ∷ record { start = true; locals = 1; params = kinds.Unsigned ∷ []; gives = unsigned; body = scoped.block (scoped.cons
-      (scoped.eval (scoped.call 4 (Known MutexLock) (scoped.and (scoped.address 4 (whole_of 4 (Mutex 0 1)) None) scoped.none) signed)) (scoped.cons
-      (scoped.eval (scoped.assign 4 None (whole_of 4 x) (scoped.binary 4 ops.Add (scoped.object (whole_of 4 x) signed) (scoped.constant 4 1 (form true true 0) unsigned) unsigned) signed)) (scoped.cons
-      (scoped.eval (scoped.call 4 (Known MutexUnlock) (scoped.and (scoped.address 4 (whole_of 4 (Mutex 0 1)) None) scoped.none) signed)) (scoped.cons
-      (scoped.return 4 (Some (scoped.object (whole_of 4 p0) unsigned))) scoped.nil)))) }
-    ∷ record { start = false; locals = 1; params = []; gives = signed; body = scoped.block (scoped.cons
-      (declares 6 (declared 6 (Handle 2 2) (Some (decimal 2)) scoped.nothing ∷ declared 6 (Handle 4 1) None scoped.nothing ∷ [])) (scoped.cons
-      (declares 6 (declared 6 y0 None scoped.nothing ∷ [])) (scoped.cons
-      (scoped.eval (scoped.call 6 (Known Create) (scoped.and (scoped.address 6 (element_of 6 (Handle 2 2) (decimal 1)) None)
-        (scoped.and (scoped.constant 6 0 (form false false 0) signed)
-        (scoped.and (scoped.object (whole_of 6 (Routine 1)) None) (scoped.and (scoped.null 6 unsigned) scoped.none)))) signed)) (scoped.cons
-      (scoped.eval (scoped.assign 6 None (whole_of 6 y0) (scoped.call 6 (Routine 0)
-        (scoped.and (scoped.object (element_of 6 a (decimal 1)) signed) (scoped.and (scoped.object (whole_of 6 x) signed) scoped.none)) signed) signed)) (scoped.cons
-      (scoped.return 6 (Some (scoped.unary 6 uops.Minus (scoped.object (whole_of 6 y0) signed) signed))) scoped.nil))))) }
-    ∷ [];
+      record {
+        start = false;
+        locals = 7;
+        params = kinds.Int ∷ kinds.Unsigned ∷ [];
+        gives = signed;
+        body = scoped.block (scoped.cons
+            (declares 3 (declared 3 b0 (Some (scoped.constant 3 2 (form true false 0) signed)) scoped.nothing ∷ [])) (scoped.cons
+            (scoped.block (scoped.cons (declares 3 (declared 3 c0 None (scoped.single (scoped.object (whole_of 3 n0) signed)) ∷ [])) scoped.nil)) (scoped.cons
+            (scoped.for 3 (declares 3 (declared 3 i0 None (scoped.single (scoped.constant 3 0 (form false false 0) signed)) ∷ []))
+            (Some (scoped.binary 3 ops.Lt (scoped.object (whole_of 3 i0) signed) (scoped.constant 3 1 (form true false 0) signed) signed))
+            (Some (scoped.step 3 (whole_of 3 i0) true false signed))
+            (declares 3 (declared 3 d0 None scoped.nothing ∷ []))) (scoped.cons
+            (scoped.return 3 (Some (scoped.object (element_of 3 b0 (scoped.object (whole_of 3 k0) unsigned)) signed))) scoped.nil))));
+      }
+      ∷ record {
+        start = true;
+        locals = 1;
+        params = kinds.Unsigned ∷ [];
+        gives = unsigned;
+        body = scoped.block (scoped.cons
+            (scoped.eval (scoped.call 4 (Known MutexLock) (scoped.and (scoped.address 4 (whole_of 4 (Mutex 0 1)) None) scoped.none) signed)) (scoped.cons
+            (scoped.eval (scoped.assign 4 None (whole_of 4 x) (scoped.binary 4 ops.Add (scoped.object (whole_of 4 x) signed) (scoped.constant 4 1 (form true true 0) unsigned) unsigned) signed)) (scoped.cons
+            (scoped.eval (scoped.call 4 (Known MutexUnlock) (scoped.and (scoped.address 4 (whole_of 4 (Mutex 0 1)) None) scoped.none) signed)) (scoped.cons
+            (scoped.return 4 (Some (scoped.object (whole_of 4 p0) unsigned))) scoped.nil))));
+      }
+      ∷ record {
+        start = false;
+        locals = 1;
+        params = [];
+        gives = signed;
+        body = scoped.block (scoped.cons
+            (declares 6 (declared 6 (Handle 2 2) (Some (decimal 2)) scoped.nothing ∷ declared 6 (Handle 4 1) None scoped.nothing ∷ [])) (scoped.cons
+            (declares 6 (declared 6 y0 None scoped.nothing ∷ [])) (scoped.cons
+            (scoped.eval (scoped.call 6 (Known Create) (scoped.and (scoped.address 6 (element_of 6 (Handle 2 2) (decimal 1)) None)
+            (scoped.and (scoped.constant 6 0 (form false false 0) signed)
+            (scoped.and (scoped.object (whole_of 6 (Routine 1)) None) (scoped.and (scoped.null 6 unsigned) scoped.none)))) signed)) (scoped.cons
+            (scoped.eval (scoped.assign 6 None (whole_of 6 y0) (scoped.call 6 (Routine 0)
+            (scoped.and (scoped.object (element_of 6 a (decimal 1)) signed) (scoped.and (scoped.object (whole_of 6 x) signed) scoped.none)) signed) signed)) (scoped.cons
+            (scoped.return 6 (Some (scoped.unary 6 uops.Minus (scoped.object (whole_of 6 y0) signed) signed))) scoped.nil)))));
+      }
+      ∷ [];
   main = 2;
 }
 

@@ -287,7 +287,7 @@ unfolding are_one_type constant_value known known_names after after_external typ
 chosen_pointer = refl
 
 -- an expression with a fault counts as `int`: it clashes with a wanted `void *`
---     int main(void) { 
+--     int main(void) {
 --      pthread_exit(y); return 0; }
 pub counted_as_int : list_of (function 1 false types.Int 0 ([]) true (block (cons (eval (call 2 1 (and (object 2 2 whole) none))) (cons (return 2 (Some (constant 2 0 (form false false 0)))) nil))) ∷ []) (codes "main" ∷ codes "pthread_exit" ∷ codes "y" ∷ []) (no_facts) ≡ broken 2 7 ∷ broken 2 1 ∷ []
 unfolding are_one_type constant_value known known_names after after_external type_of faults declarators_faults statement_faults params_faults external_faults externals_faults file_faults file_with
@@ -580,4 +580,3 @@ refused_and_other = refl
 pub too_high : list_of (function 1 false types.Void 0 ([]) true (block nil) ∷ function 2 false types.Void 1 ([]) true (block (cons (eval (call 2 0 none)) nil)) ∷ function 3 false types.Int 2 ([]) true (block nil) ∷ []) (codes "f" ∷ codes "g" ∷ codes "main" ∷ []) (record { returning = []; reached = []; high = false ∷ true ∷ false ∷ [] }) ≡ broken 2 26 ∷ []
 unfolding are_one_type constant_value known known_names after after_external type_of faults declarators_faults statement_faults params_faults external_faults externals_faults file_faults file_with
 too_high = refl
-

@@ -99,7 +99,8 @@ joined_word op a b =
     if is_division op && word b.value == 0 then None
     else Some (record {
       kind = binary_kind op a.kind b.kind;
-      value = binary_value op (word a.value) (word b.value) (operand_kind op a.kind b.kind) })
+      value = binary_value op (word a.value) (word b.value) (operand_kind op a.kind b.kind);
+    })
 
 abbrev pub binary_word : Binary → Option Word → Option Word → Option Word
 binary_word op None right = None
@@ -110,7 +111,8 @@ binary_word op (Some a) (Some b) = joined_word op a b
 abbrev pub chosen_word : Bool → Word → Word → Word
 chosen_word test a b = record {
   kind = joint a.kind b.kind;
-  value = if test then converted (word a.value) a.kind (joint a.kind b.kind) else converted (word b.value) b.kind (joint a.kind b.kind) }
+  value = if test then converted (word a.value) a.kind (joint a.kind b.kind) else converted (word b.value) b.kind (joint a.kind b.kind);
+}
 
 abbrev pub choose_word : Option Word → Option Word → Option Word → Option Word
 choose_word None first second = None

@@ -16,16 +16,17 @@ use Rattle.lz_types.specs.declared.value_type.ValueType.TheVariants.{Integer, Po
 use Rattle.lz_types.specs.declared.value_type.Want.{Want}
 use Rattle.lz_types.specs.declared.value_type.Want.TheVariants as wants
 use Rattle.lz_types.specs.declared.fault.Rule.{Rule}
+use Rattle.lz_types.specs.contracts.fault.Rule as rule_contract
 use Rattle.lz_types.specs.declared.fault.Rule.TheVariants.{Undeclared, NoFunction, ArgumentCount, TypeMisfit, LargeConstant, Recursive, NoStartRoutine, ThreadInThread, PointerOutsideStart, MisplacedAddress, BadAttribute, MisplacedText, RefusedType}
-use Rattle.lz_types.specs.declared.names.Entry.{Entry}
+use Rattle.lz_types.specs.declared.meaning.Named.{Named}
 use Rattle.lz_types.specs.ValueTypes.{value_type, is_refused, is_pointer, is_thread, is_mutex, is_cond, is_no_operand, kind_of, counted, when, want_of, clash}
 use Rattle.lz_types.specs.Constants.{is_large, has_longs, constant_kind, joint, binary_kind, unary_kind}
-use Rattle.lz_types.specs.Files.{File, function_named, known_at, is_main, returns_to, is_reached}
+use Rattle.lz_types.specs.Files.{File, function_named, params_of, known_at, is_main, returns_to, is_reached}
 use Rattle.lz_types.specs.KnownNames.{wants_of_known, takes_more, is_for_threads, given_by_known}
 use Rattle.lz_types.specs.declared.place.Place.{Place}
 use Rattle.lz_types.specs.Names.{nearest}
 use Rattle.lz_types.specs.declared.signature.Signature.{Signature}
-use Rattle.lz_types.specs.Scopes.{is_start_at, Named, named, around, called_by}
+use Rattle.lz_types.specs.Scopes.{is_start_at, named, around, called_by}
 
 -- ---- objects
 
@@ -33,21 +34,20 @@ abbrev pub has_index : Index → Bool
 has_index whole = false
 has_index (element index) = true
 
-abbrev same_truth : Bool → Bool → Bool
-same_truth true b = b
-same_truth false b = not b
+-- an array stands with an index and nothing else does; and what is assigned to is no object for threads and no
+-- function
+abbrev pub misfits : Bool → Named → Bool → Bool
+misfits assigned n indexed = (if n.array then not indexed else indexed) || (assigned && is_no_operand n.of)
 
--- the rules that a target breaks: its name is declared before it; an array stands with an index and nothing else does;
--- and what is assigned to is no object for threads and no function
+-- the rules that a target breaks: its name is declared before it, and it is fit for its place
 abbrev pub misuse : Bool → Option Named → Bool → List Rule
 misuse assigned None indexed = Undeclared ∷ []
-misuse assigned (Some n) indexed = when (not (same_truth n.array indexed) || (assigned && is_no_operand n.of)) TypeMisfit
+misuse assigned (Some n) indexed = when (misfits assigned n indexed) TypeMisfit
 
 -- what a target is; one with a fault counts as `int`
 abbrev pub target_type : Bool → Option Named → Bool → ValueType
 target_type assigned None indexed = counted
-target_type assigned (Some n) indexed =
-    if not (same_truth n.array indexed) || (assigned && is_no_operand n.of) then counted else n.of
+target_type assigned (Some n) indexed = if misfits assigned n indexed then counted else n.of
 
 -- the elements of an object are of a type, or it is
 abbrev pub is_object_of : (ValueType → Bool) → Option Named → Bool
@@ -59,10 +59,6 @@ is_object_of is_of (Some n) = is_of n.of
 -- what a called name means at a place, where it means a function
 abbrev pub callee : File → Place → ℕ → Option Object
 callee file place name = called_by (nearest place.names name) (known_at file name) (function_named file.functions name)
-
-abbrev pub params_of : Option Signature → List TypeName
-params_of None = []
-params_of (Some f) = f.params
 
 -- what a called function wants for its arguments
 abbrev pub wants_of : File → Option Object → List Want
@@ -110,6 +106,11 @@ given file (Some (Known k)) = given_by_known k
 given file _ = counted
 
 -- ---- arguments of the calls on threads and of `printf`
+
+-- the rule that is broken unless the test holds
+abbrev pub unless : Bool → Rule → Option Rule
+unless true rule = None
+unless false rule = Some rule
 
 -- the constant 0, in any spelling
 abbrev pub is_zero : Expression → Bool
@@ -163,27 +164,20 @@ module _ (file : File) (place : Place) where
   is_start_name _ = false
 
   -- the rule that an argument breaks at its call
-  abbrev pub misplaced : Want → Expression → List Rule
-  misplaced (wants.Reference to) e = when (not (is_reference to e)) MisplacedAddress
-  misplaced wants.Handle e = when (not (is_handle e)) MisplacedAddress
-  misplaced wants.Start e = when (not (is_start_name e)) NoStartRoutine
-  misplaced wants.Null e = when (not (is_null e)) BadAttribute
-  misplaced wants.Format e = when (not (is_text e)) MisplacedText
-  misplaced _ e = []
+  abbrev pub misplaced : Want → Expression → Option Rule
+  misplaced (wants.Reference to) e = unless (is_reference to e) MisplacedAddress
+  misplaced wants.Handle e = unless (is_handle e) MisplacedAddress
+  misplaced wants.Start e = unless (is_start_name e) NoStartRoutine
+  misplaced wants.Null e = unless (is_null e) BadAttribute
+  misplaced wants.Format e = unless (is_text e) MisplacedText
+  misplaced _ e = None
 
 -- ---- rules that a node breaks by itself
 
-abbrev same_rule : Rule → Rule → Bool
-same_rule NoStartRoutine NoStartRoutine = true
-same_rule MisplacedAddress MisplacedAddress = true
-same_rule BadAttribute BadAttribute = true
-same_rule MisplacedText MisplacedText = true
-same_rule _ _ = false
-
--- a rule is among some
-abbrev pub has_rule : Rule → List Rule → Bool
-has_rule rule [] = false
-has_rule rule (r ∷ rest) = same_rule rule r || has_rule rule rest
+-- this rule is broken
+abbrev pub is_broken : Rule → Option Rule → Bool
+is_broken rule None = false
+is_broken rule (Some other) = sameb rule_contract.the_type other rule
 
 -- the function around the place is one that a start routine can reach or that is one
 abbrev pub is_in_thread : File → Option ℕ → Bool
@@ -248,13 +242,14 @@ module _ (file : File) (place : Place) where
   abbrev pub type_at : Bool → ℕ → Index → ValueType
   type_at assigned name index = target_type assigned (named place name) (has_index index)
 
-  -- rules that arguments break at their call
-  abbrev pub misplaced_all : List Want → Want → Expressions → List Rule
-  misplaced_all ws further none = []
-  misplaced_all ws further (and e rest) = misplaced file place (first_want ws further) e ++ misplaced_all (rest_of ws) further rest
+  -- one of some arguments breaks the rule at their call
+  abbrev pub some_misplaced : Rule → List Want → Want → Expressions → Bool
+  some_misplaced rule ws further none = false
+  some_misplaced rule ws further (and e rest) =
+      is_broken rule (misplaced file place (first_want ws further) e) || some_misplaced rule (rest_of ws) further rest
 
-  abbrev pub misplaced_in : Option Object → Expressions → List Rule
-  misplaced_in callee args = misplaced_all (wants_of file callee) (further_want callee) args
+  abbrev pub breaks_at_call : Rule → Option Object → Expressions → Bool
+  breaks_at_call rule callee args = some_misplaced rule (wants_of file callee) (further_want callee) args
 
   -- the rules up to that of types: a call means a function, which takes so many arguments; no `void *` is assigned to
   abbrev pub wrong_call : Option Object → ℕ → List Rule
@@ -273,11 +268,11 @@ module _ (file : File) (place : Place) where
   late_call (Some (Routine n)) args =
       when (can_return file (around place) n) Recursive ++ when (is_only_started file (slice_get file.functions n)) PointerOutsideStart
   late_call (Some (Known k)) args =
-      when (has_rule NoStartRoutine (misplaced_in (Some (Known k)) args)) NoStartRoutine
+      when (breaks_at_call NoStartRoutine (Some (Known k)) args) NoStartRoutine
       ++ (when (is_for_threads k && is_in_thread file (around place)) ThreadInThread
-      ++ (when (has_rule MisplacedAddress (misplaced_in (Some (Known k)) args)) MisplacedAddress
-      ++ (when (has_rule BadAttribute (misplaced_in (Some (Known k)) args)) BadAttribute
-      ++ when (has_rule MisplacedText (misplaced_in (Some (Known k)) args)) MisplacedText)))
+      ++ (when (breaks_at_call MisplacedAddress (Some (Known k)) args) MisplacedAddress
+      ++ (when (breaks_at_call BadAttribute (Some (Known k)) args) BadAttribute
+      ++ when (breaks_at_call MisplacedText (Some (Known k)) args) MisplacedText)))
   late_call _ args = []
 
   abbrev pub late : Want → Expression → List Rule

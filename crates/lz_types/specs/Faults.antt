@@ -19,7 +19,7 @@ use Rattle.lz_types.specs.KnownNames.{is_taken}
 use Rattle.lz_types.specs.declared.place.Place.{Place}
 use Rattle.lz_types.specs.Names.{nearest}
 use Rattle.lz_types.specs.declared.signature.Signature.{Signature}
-use Rattle.lz_types.specs.Scopes.{bases, is_start, is_start_at, Named, named, is_outside, around, has_object, has_function, with_declarator, with_declarators, with_declaration, with_param, with_params, inside, inside_loop, behind, after, after_branch, after_all, opening, into_body, into, with_function, after_external}
+use Rattle.lz_types.specs.Scopes.{bases, is_start, is_start_at, named, is_outside, around, has_object, has_function, with_declarator, with_declarators, with_declaration, with_param, with_params, inside, inside_loop, behind, after, after_branch, after_all, opening, into_body, into, with_function, after_external}
 use Rattle.lz_types.specs.Files.{File, function_named, known_at, is_main, is_high}
 use Rattle.lz_types.specs.ExpressionTypes.{has_index, misuse, callee, wants_of, further_want, first_want, rest_of, count, is_function_name, is_start_place, is_in_thread, type_at, type_of, choice_want, own}
 

@@ -1,6 +1,7 @@
 -- Trusted: what is known of a whole file while it is walked, and how the code's tables say it.
 use Rattle.std.specs.Prelude.{◌≡◌, ℕ, ◌+◌, ◌==◌, Bool, true, false, List, [], ◌∷◌, Option, Some, None, Vec, if◌then◌else◌, slice_get}
 use Rattle.std.specs.List.{list_any}
+use Rattle.lz_tree.specs.declared.expression.TypeName.{TypeName}
 use Rattle.lz_tree.specs.declared.scoped.KnownName.{KnownName}
 use Rattle.lz_types.specs.declared.signature.Signature.{Signature}
 
@@ -23,6 +24,11 @@ function_from n (f ∷ rest) name = if f.name == name then Some n else function_
 -- the number of the function of a name: where a file defines two, the first one
 abbrev pub function_named : List Signature → ℕ → Option ℕ
 function_named functions name = function_from 0 functions name
+
+-- the types of the parameters of a function
+abbrev pub params_of : Option Signature → List TypeName
+params_of None = []
+params_of (Some f) = f.params
 
 -- ---- tables
 

@@ -11,6 +11,7 @@ use Rattle.lz_tree.specs.declared.scoped.Object.TheVariants.{Local, Cell, Mutex,
 use Rattle.lz_tree.specs.Trees.{InitDeclarator, Declaration, Statement, empty, eval, block, declare, when, while, do_while, for, break, continue, return, label, Branch, absent, branch, Statements, nil, cons, ExternalDeclaration, objects, prototype, function}
 use Rattle.lz_types.specs.declared.signature.Signature.{Signature}
 use Rattle.lz_types.specs.declared.names.Entry.{Entry}
+use Rattle.lz_types.specs.declared.meaning.Named.{Named}
 use Rattle.lz_types.specs.declared.place.Counts.{Counts}
 use Rattle.lz_types.specs.declared.place.Place.{Place}
 use Rattle.lz_types.specs.Names.{or, nearest}
@@ -34,14 +35,15 @@ abbrev pub signatures : List ExternalDeclaration → List Signature
 signatures [] = []
 signatures (e ∷ rest) = signature_in e ++ signatures rest
 
+-- one parameter, a `void *`
+abbrev pub is_one_pointer : List TypeName → Bool
+is_one_pointer [] = false
+is_one_pointer (p ∷ []) = is_pointer (value_type p)
+is_one_pointer (p ∷ q ∷ rest) = false
+
 -- the form of a start routine: `void *f(void *a)`
 abbrev pub is_start : Signature → Bool
 is_start f = is_pointer (value_type f.gives) && is_one_pointer f.params
-  where
-    is_one_pointer : List TypeName → Bool
-    is_one_pointer [] = false
-    is_one_pointer (p ∷ []) = is_pointer (value_type p)
-    is_one_pointer (p ∷ q ∷ rest) = false
 
 abbrev pub is_start_at : Option Signature → Bool
 is_start_at None = false
@@ -68,11 +70,6 @@ has_object place name = is_in_scope place.depth (nearest place.names name)
 -- a function of the name is declared before the place
 abbrev pub has_function : Place → ℕ → Bool
 has_function place name = list_any (λ f. f == name) place.functions
-
--- What a name that is used as an object is: what it is or its elements are, and whether it is an array.
-pub record Named : Type 0 where
-  pub of : ValueType
-  pub array : Bool
 
 abbrev pub named_by : Option Entry → Bool → Option Named
 named_by (Some e) is_function = Some (record { of = e.of; array = e.array })

@@ -177,7 +177,10 @@ pub fn constant_value(e: &Expr) -> Option<Word>
             cast_word(*to, a)
         }
         Expr::Binary {
-            op, left, right, ..
+            op,
+            left,
+            right,
+            ..
         } => {
             let a = constant_value(left)?;
             let b = constant_value(right)?;

@@ -1,10 +1,11 @@
-ghost use Rattle.std.specs.Prelude.{◌≡◌, ◌==◌, map};
+ghost use Rattle.std.specs.Prelude.{◌≡◌, ◌==◌, map, option_map, slice_get};
 ghost use Rattle.std.specs.List.{list_any};
 ghost use Rattle.lz_types.specs.Files as spec;
+ghost use Rattle.lz_types.specs.Files.{params_of};
 ghost use Rattle.lz_types.specs.Files.{File, HasDefined, function_named};
 
 use crate::signature::Signature;
-use lz_tree::KnownName;
+use lz_tree::{KnownName, TypeName};
 use std::marker::Model;
 
 /// What is known of a whole file while it is walked.
@@ -29,12 +30,12 @@ impl Model for WholeFile {
     ghost Value = { File };
 
     ghost view = { λ f. record {
-        known = f.known.items;
-        main = f.main;
-        functions = f.functions.items;
-        returning = map (λ row. row.items) f.returning.items;
-        reached = f.reached.items;
-        high = f.high.items;
+      known = f.known.items;
+      main = f.main;
+      functions = f.functions.items;
+      returning = map (λ row. row.items) f.returning.items;
+      reached = f.reached.items;
+      high = f.high.items;
     } };
 
     ghost invariant = { λ f. HasDefined f.functions.items f.defined.items };
@@ -105,6 +106,26 @@ impl WholeFile {
         match self.high.get(function as usize) {
             None => false,
             Some(high) => *high,
+        }
+    }
+
+    /// The types of the parameters of a function.
+    pub fn params(&self, function: u32) -> &[TypeName]
+        ensures { result.now ≡ params_of (slice_get self.now.functions function) }
+    {
+        match self.functions.get(function as usize) {
+            None => &[],
+            Some(f) => f.params.items(),
+        }
+    }
+
+    /// The type of the result of a function.
+    pub fn gives(&self, function: u32) -> Option<TypeName>
+        ensures { result ≡ option_map (λ f. f.gives) (slice_get self.now.functions function) }
+    {
+        match self.functions.get(function as usize) {
+            None => None,
+            Some(f) => Some(f.gives),
         }
     }
 }

@@ -4,6 +4,7 @@
 mod constant;
 mod fault;
 mod file;
+mod meaning;
 mod names;
 mod place;
 mod reserved;
@@ -12,9 +13,10 @@ mod value_type;
 
 pub use constant::Word;
 pub use fault::{Fault, Rule, TypeError};
-pub use reserved::{is_taken, known};
 pub use file::WholeFile;
+pub use meaning::Named;
 pub use names::{Entry, Functions, Names};
 pub use place::{Counts, Place};
+pub use reserved::{is_taken, known};
 pub use signature::Signature;
 pub use value_type::{ValueType, Want};
