@@ -1,5 +1,5 @@
 //! The word operators of the checked language as circuits.
-ghost use Rattle.std.specs.Prelude.{◌≡◌, ℕ, ◌+◌, ◌*◌, ◌<◌, ◌≤◌, true, ◌^◌, ◌%◌, ◌&&◌, ◌||◌, IfOk, OnOk, OnErr, IsErr, length, if◌then◌else◌, not, ◌==◌, int_lt};
+ghost use Rattle.std.specs.Prelude.{◌≡◌, ℕ, ◌+◌, ◌*◌, ◌<◌, ◌≤◌, true, ◌^◌, ◌%◌, ◌&&◌, ◌||◌, IfOk, OnOk, OnErr, IsErr, length, if◌then◌else◌, not, ◌==◌, int_lt, false};
 ghost use Rattle.lz_cnf.specs.Models.{negated};
 ghost use Rattle.lz_base.specs.Words.{truth, is_true, signed, unary_value, binary_value, converted};
 ghost use Rattle.lz_gates.specs.Circuits.{Assignment, Satisfies, value, IsLit, AreLits, Makes};
