@@ -430,6 +430,20 @@ def prove(tried, solver, op, kind, circuit):
         print(f"NOT PROVED {name}", flush=True)
 
 
+def compare_operator(tried, solver, op, kind, sides, pairs, words):
+    """All comparisons of an operator at one kind, and its sizes beside those of the plain encoding."""
+    circuit, textbook = printed(op, kind, *["fresh"] * sides), plain(op, kind, sides)
+    lists, wanted = lists_for(op, kind, sides, pairs)
+    for name, one in (("", circuit), (", plain", textbook)):
+        tried.compare(f"{op} {kind}{name}", one, lists, wanted)
+    for operands, tries in with_constants(sides, words):
+        lists, wanted = lists_for(op, kind, sides, tries)
+        tried.compare(f"{op} {kind} {operands}", printed(op, kind, *operands), lists, wanted)
+    if solver and op not in HARD:
+        prove(tried, solver, op, kind, circuit)
+    return circuit.variables, circuit.clauses, textbook.variables, textbook.clauses
+
+
 def main():
     if not os.access(PROGRAM, os.X_OK):
         sys.exit("build the program first: (cd crates/lz_circuits && rt run)")
@@ -442,18 +456,12 @@ def main():
     words = edges + [random_word(rng) for _ in range(count // 10)]
     print("| operator | kind | variables | clauses | plain: variables | clauses |\n|---|---|---|---|---|---|")
     for op, sides in [(op, 1) for op in UNARY] + [(op, 2) for op in BINARY] + [("?", 2)]:
-        for kind in KINDS:
-            circuit, textbook = printed(op, kind, *["fresh"] * sides), plain(op, kind, sides)
-            lists, wanted = lists_for(op, kind, sides, pairs)
-            for name, one in (("", circuit), (", plain", textbook)):
-                tried.compare(f"{op} {kind}{name}", one, lists, wanted)
-            sizes = (circuit.variables, circuit.clauses, textbook.variables, textbook.clauses)
-            print(f"| `{op}` | {kind} | " + " | ".join(f"{size:,}" for size in sizes) + " |", flush=True)
-            for operands, tries in with_constants(sides, words):
-                lists, wanted = lists_for(op, kind, sides, tries)
-                tried.compare(f"{op} {kind} {operands}", printed(op, kind, *operands), lists, wanted)
-            if solver and op not in HARD:
-                prove(tried, solver, op, kind, circuit)
+        sizes = {kind: compare_operator(tried, solver, op, kind, sides, pairs, words) for kind in KINDS}
+        if sizes["int"] == sizes["unsigned"]:
+            sizes = {"both": sizes["int"]}
+        for kind, size in sizes.items():
+            cells = [f"`{op}`".replace("|", "\\|"), kind, *(f"{number:,}" for number in size)]
+            print("| " + " | ".join(cells) + " |", flush=True)
     print(f"{tried.circuits} circuits at {tried.values} lists of operands, {len(tried.faults)} disagreements")
     print(f"{len(tried.proved)} circuits proved by {os.path.basename(solver)}" if solver else "no solver is installed")
     return 1 if tried.faults else 0

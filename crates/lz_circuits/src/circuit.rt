@@ -73,12 +73,7 @@ fn operand_bits(alloc: Global, builder: &mut Builder, operand: Operand) -> Resul
 
 /// Of a unary operator.
 #[tactic(auto, using(lz_arith::proofs::FreshLemmas::unary_variables_most, lz_arith::proofs::FreshLemmas::bits_still))]
-fn unary_circuit(
-    alloc: Global,
-    op: Unary,
-    kind: IntType,
-    of: Operand,
-) -> Result<Circuit, Memory> {
+fn unary_circuit(alloc: Global, op: Unary, kind: IntType, of: Operand) -> Result<Circuit, Memory> {
     let mut builder = Builder::new(alloc)?;
     let of = operand_bits(alloc, &mut builder, of)?;
     let result = unary_bits(alloc, &mut builder, op, kind, &of)?;

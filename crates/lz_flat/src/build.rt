@@ -62,12 +62,7 @@ fn unary_expr(alloc: Global, op: Unary, kind: IntType, of: FlatExpr) -> Result<F
 }
 
 /// The expression that converts from one kind to another.
-fn convert_expr(
-    alloc: Global,
-    from: IntType,
-    to: IntType,
-    of: FlatExpr,
-) -> Result<FlatExpr, Memory>
+fn convert_expr(alloc: Global, from: IntType, to: IntType, of: FlatExpr) -> Result<FlatExpr, Memory>
     ensures { IfOk result (λ made. expression made ≡ spec.convert from to (expression of)) }
 {
     let of = Box::new(alloc, of)?;

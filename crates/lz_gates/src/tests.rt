@@ -107,30 +107,6 @@ fn folded_choices(rt: HostRuntime) -> Result<(), Fail> {
     Ok(())
 }
 
-/// A choice with one constant side is a conjunction: one variable and three clauses.
-#[test]
-fn choices_with_a_constant_side(rt: HostRuntime) -> Result<(), Fail> {
-    for side in 0..4_u32 {
-        let (mut builder, x) = started(rt.alloc())?;
-        let y = builder.fresh().ok().ok_or("memory")?;
-        let constant = Lit(side % 2);
-        let (yes, no) = if side < 2 {
-            (constant, y)
-        } else {
-            (y, constant)
-        };
-        let made = builder.choose_gate(x, yes, no).is_ok();
-        assert!(rt; made);
-        let formula = builder.finish();
-        assert_eq!(rt;
-            (formula.variables, formula.clauses.items().len()),
-            (4, 4),
-            "{side}"
-        );
-    }
-    Ok(())
-}
-
 /// A builder that gave up answers want of memory.
 #[test]
 fn spent_builder_answers_want_of_memory(rt: HostRuntime) -> Result<(), Fail> {
