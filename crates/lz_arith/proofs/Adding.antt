@@ -12,6 +12,7 @@ use Rattle.lz_arith.proofs.Words.{word_push, word_take, word_lt, pow_twice}
 
 -- ---- one bit
 
+-- two differences and a choice make the sum of three bits
 sum_of_three : (x y c d s n : Bool) → d ≡ xor x y → s ≡ xor d c → n ≡ choice d c x → bit s + 2 * bit n ≡ bit x + bit y + bit c
 sum_of_three x y c d s n e f g = rw (g, f, e) (three x y c)
   where
@@ -25,6 +26,7 @@ sum_of_three x y c d s n e f g = rw (g, f, e) (three x y c)
     three false false true = omega arith
     three false false false = omega arith
 
+-- the three gates make a full adder
 pub full_add_makes : (one two three four : Circuit) (x y c d s n : Lit)
     → Makes one two 1 4 (λ a. value a d ≡ xor (value a x) (value a y))
     → Makes two three 1 4 (λ a. value a s ≡ xor (value a d) (value a c))
@@ -39,6 +41,7 @@ full_add_makes one two three four x y c d s n h k l =
 
 -- ---- all bits
 
+-- the sum of the low bits so far, with what it carries
 pub record IsSumSoFar (start now : Circuit) (left right : List Lit) (first carried : Lit) (bits : List Lit) (i : ℕ) : Type 0 where
   pub lefts : AreLits now left
   pub rights : AreLits now right
@@ -46,14 +49,17 @@ pub record IsSumSoFar (start now : Circuit) (left right : List Lit) (first carri
   pub carried_in : IsLit now carried
   pub made : Makes start now (3 * i) (14 * i) (λ a. word a bits + 2 ^ i * bit (value a carried) ≡ word a (take i left) + word a (take i right) + bit (value a first))
 
+-- one more place adds its bits to the sum
 sum_step : (w p l r s b n x y f : ℕ) → w + p * f ≡ l + r + b → s + 2 * n ≡ x + y + f → w + p * s + p * 2 * n ≡ l + p * x + (r + p * y) + b
 sum_step w p l r s b n x y f h k =
     let e : p * (s + 2 * n) ≡ p * (x + y + f) = ap (λ (m : ℕ). p * m) k in
     grind arith
 
+-- literals of a circuit are literals of a larger one
 pub are_lits_more : (old new : Circuit) (lits : List Lit) → old.variables ≤ new.variables → AreLits old lits → AreLits new lits
 are_lits_more old new lits le h k d lt = let p = h k d lt in omega (arith, p)
 
+-- before the first place the sum is the carry
 pub sum_none : (start : Circuit) (left right : List Lit) (first : Lit) → AreLits start left → AreLits start right → IsLit start first → IsSumSoFar start start left right first first [] 0
 unfolding word
 sum_none start left right first hl hr h = record {
@@ -64,6 +70,7 @@ sum_none start left right first hl hr h = record {
   made = makes_same start _ (λ a s. omega arith);
 }
 
+-- one more full adder adds one more place
 pub sum_more : (start now next : Circuit) (left right : List Lit) (first carried sum carry : Lit) (bits : List Lit) (i : ℕ) (d e : Lit)
     → IsSumSoFar start now left right first carried bits i → i < length left → i < length right
     → IsLit next sum → IsLit next carry
@@ -88,9 +95,11 @@ sum_more start now next left right first carried sum carry bits i d e h lt ltr s
       (omega arith) (omega arith) (λ a s p. p);
 }
 
+-- a sum without what it carries is the sum modulo 2 to its width
 pub sum_mod : (w p t : ℕ) (c : Bool) → w < p → w + p * bit c ≡ t → w ≡ t % p
 sum_mod w p t c lt e = sym (ap (λ (n : ℕ). n % p) (sym e ∙ add_comm w (p * bit c) ∙ ap (λ (n : ℕ). n + w) (mul_comm p (bit c))) ∙ mod-mul-add (bit c) p w lt)
 
+-- after all places it is the sum of the words
 pub sum_all : (start now : Circuit) (left right : List Lit) (first carried : Lit) (bits : List Lit) (i : ℕ) → IsSumSoFar start now left right first carried bits i → i ≡ length left → i ≡ length right
     → Makes start now (3 * length left) (14 * length left) (λ a. word a bits + 2 ^ length left * bit (value a carried) ≡ word a left + word a right + bit (value a first))
 sum_all start now left right first carried bits i h e f =
@@ -100,6 +109,7 @@ sum_all start now left right first carried bits i h e f =
     let tr : take i right ≡ right = take_all i right (omega arith) in
     ap (λ (n : ℕ). word a bits + 2 ^ n * bit (value a carried)) (sym e) ∙ p ∙ ap (λ (xs : List Lit). word a xs + word a (take i right) + bit (value a first)) tl ∙ ap (λ (xs : List Lit). word a left + word a xs + bit (value a first)) tr)
 
+-- the bits alone are the sum modulo 2 to the width
 pub sum_modulo : (start now : Circuit) (left right bits : List Lit) (first carried : Lit) (v c : ℕ)
     → Makes start now v c (λ a. word a bits + 2 ^ length left * bit (value a carried) ≡ word a left + word a right + bit (value a first)) → AreBits now (length left) bits
     → Makes start now v c (λ a. word a bits ≡ (word a left + word a right + bit (value a first)) % 2 ^ length left)

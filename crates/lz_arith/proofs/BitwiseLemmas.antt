@@ -42,21 +42,25 @@ pub record Combines (start now : Circuit) (kind : Bitwise) (left right bits : Li
   pub bits_in : AreBits now i bits
   pub made : Makes start now i (4 * i) (λ a. word a bits ≡ bitwise_number kind (word a (take i left)) (word a (take i right)))
 
+-- a bit on top of a number, written the other way round
 swap : (p l : ℕ) (x : Bool) → l + p * bit x ≡ bit x * p + l
 swap p l x = grind arith
 
+-- the conjunction of two bits, as numbers
 and_bits : (x y : Bool) → bit_and (bit x) (bit y) ≡ bit (x && y)
 and_bits true true = refl
 and_bits true false = refl
 and_bits false true = refl
 and_bits false false = refl
 
+-- the difference of two bits, as numbers
 xor_bits : (x y : Bool) → bit_xor (bit x) (bit y) ≡ bit (xor x y)
 xor_bits true true = refl
 xor_bits true false = refl
 xor_bits false true = refl
 xor_bits false false = refl
 
+-- the disjunction of two bits, as numbers
 or_bits : (x y : Bool) → bit_or (bit x) (bit y) ≡ bit (x || y)
 or_bits true true = refl
 or_bits true false = refl
@@ -76,11 +80,13 @@ bitwise_step Or i x y z w l r ll lr e f =
     rw (e, f) (sym (ap (λ (m : ℕ). bit_or m (r + 2 ^ i * bit y)) (swap (2 ^ i) l x) ∙ ap (λ (m : ℕ). bit_or (bit x * 2 ^ i + l) m) (swap (2 ^ i) r y)
     ∙ or_block i (bit x) (bit y) l r ll lr ∙ ap (λ (m : ℕ). m * 2 ^ i + bit_or l r) (or_bits x y) ∙ sym (swap (2 ^ i) (bit_or l r) (x || y))))
 
+-- of no bits each operator makes 0
 none_number : (kind : Bitwise) → 0 ≡ bitwise_number kind 0 0
 none_number And = refl
 none_number Xor = refl
 none_number Or = refl
 
+-- before the first place nothing is combined
 pub bitwise_none : (start : Circuit) (kind : Bitwise) (left right : List Lit) → AreLits start left → AreLits start right → Combines start start kind left right [] 0
 unfolding word
 bitwise_none start kind left right hl hr = record {
@@ -90,6 +96,7 @@ bitwise_none start kind left right hl hr = record {
   made = makes_same start _ (λ a s. none_number kind);
 }
 
+-- one more gate combines one more place
 pub bitwise_more : (start now next : Circuit) (kind : Bitwise) (left right : List Lit) (lit : Lit) (i : ℕ) (bits : List Lit) (d e : Lit)
     → Combines start now kind left right bits i → i < length left → i < length right → IsLit next lit
     → Makes now next 1 4 (λ a. value a lit ≡ bitwise_value kind (value a (get_or left i d)) (value a (get_or right i e)))
@@ -109,6 +116,7 @@ bitwise_more start now next kind left right lit i bits d e h lt ltr lit_in made 
       (omega arith) (omega arith) (λ a s p. p);
 }
 
+-- after all places the words are combined
 pub bitwise_all : (start now : Circuit) (kind : Bitwise) (left right : List Lit) (i : ℕ) (bits : List Lit)
     → Combines start now kind left right bits i → i ≡ length left → i ≡ length right
     → Makes start now (length left) (4 * length left) (λ a. word a bits ≡ bitwise_number kind (word a left) (word a right))
@@ -118,6 +126,7 @@ bitwise_all start now kind left right i bits h e f =
 
 -- ---- two numbers are equal where no bit differs
 
+-- two bits that do not differ are equal
 small_same : (x y : ℕ) → x < 2 → y < 2 → bit_xor x y ≡ 0 → x ≡ y
 small_same zero zero lx ly e = refl
 small_same zero (suc zero) lx ly e = absurd cc
@@ -127,6 +136,7 @@ small_same (suc (suc x)) y lx ly e = absurd (omega arith)
 small_same zero (suc (suc y)) lx ly e = absurd (omega arith)
 small_same (suc zero) (suc (suc y)) lx ly e = absurd (omega arith)
 
+-- two numbers of so many bits of which none differs are equal
 no_bit_differs : (n x y : ℕ) → x < 2 ^ n → y < 2 ^ n → bit_xor x y ≡ 0 → x ≡ y
 no_bit_differs zero x y lx ly e = omega arith
 no_bit_differs (suc n) x y lx ly e =
@@ -140,6 +150,7 @@ no_bit_differs (suc n) x y lx ly e =
     twice_power : (k : ℕ) → 2 ^ suc k ≡ 2 ^ k * 2
     twice_power k = pow-suc 2 k
 
+-- two numbers that differ are not equal
 apart : (x y : ℕ) → (x ≡ y → ⊥) → eqb x y ≡ false
 apart x y h = by (eqb x y) refl
   where
@@ -147,6 +158,7 @@ apart x y h = by (eqb x y) refl
     by true e = absurd (h (eqb-true x y e))
     by false e = e
 
+-- two numbers differ exactly where some bit does
 differ_test : (n x y : ℕ) → x < 2 ^ n → y < 2 ^ n → not (eqb (bit_xor x y) 0) ≡ not (eqb x y)
 differ_test n x y lx ly = ap not (by (eqb x y) refl)
   where

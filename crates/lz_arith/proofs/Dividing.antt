@@ -14,19 +14,23 @@ use Rattle.lz_arith.proofs.Words.{word_push, word_lt, pow_twice, bit_le}
 use Rattle.lz_arith.proofs.Shifting.{word_front, append_in, word_copies}
 use Rattle.lz_arith.proofs.Adding.{are_lits_more}
 
+-- the opposites of literals and of one more
 pub negations_push : (xs : List Lit) (y : Lit) → negations (xs ++ y ∷ []) ≡ negations xs ++ negated y ∷ []
 negations_push [] y = refl
 negations_push (x ∷ xs) y = ap (λ (zs : List Lit). negated x ∷ zs) (negations_push xs y)
 
+-- they are as many
 pub length-negations : (xs : List Lit) → length (negations xs) ≡ length xs
 length-negations [] = refl
 length-negations (x ∷ xs) = ap suc (length-negations xs)
 
+-- they are literals of the circuit
 pub negations_in : (circuit : Circuit) (xs : List Lit) → AreLits circuit xs → (k : ℕ) (d : Lit) → k < length (negations xs) → variable_of (get_or (negations xs) k d) < circuit.variables
 negations_in circuit [] h k d lt = absurd (omega arith)
 negations_in circuit (x ∷ xs) h zero d lt = let p = h zero d (omega arith) in omega (arith, p, variable_of-negated x)
 negations_in circuit (x ∷ xs) h (suc k) d lt = negations_in circuit xs (λ j e l. h (suc j) e (omega arith)) k d (omega arith)
 
+-- a bit and its opposite make 1
 bit_not : (b : Bool) → bit (not b) + bit b ≡ 1
 bit_not true = refl
 bit_not false = refl
@@ -42,6 +46,7 @@ word_negations a (x ∷ xs) =
     let p = pow-suc 2 (length xs) in
     omega arith
 
+-- a number below the modulus stays
 pub small_mod : (b p : ℕ) → b < p → b % p ≡ b
 small_mod b p lt = ap (λ (n : ℕ). n % p) (plain b p) ∙ mod-mul-add 0 p b lt
   where
@@ -55,17 +60,20 @@ divide_fits d r D m p diff next s h e lt dp c f g =
     let same : diff % p ≡ diff = small_mod diff p small in
     (omega arith, omega arith)
 
+-- a step in which the divisor does not fit leaves the rest as it is
 divide_not : (d r D m p diff next : ℕ) (s : ℕ) → diff < p * 2 → s ≡ d + 2 * r → r < D → D < p → m + D + 1 ≡ p * 2 → diff + p * 2 * 0 ≡ s + m + 1 → (next ≡ s % p) → (0 * D + next ≡ s) × (next < D)
 divide_not d r D m p diff next s small e lt dp c f g =
     let less : s < D = omega arith in
     let same : s % p ≡ s = small_mod s p (omega arith) in
     (omega arith, omega arith)
 
+-- a step of a long division, by whether the divisor fits
 divide_bit : (fits : Bool) (d r D m p diff next : ℕ) (s : ℕ) → d ≤ 1 → diff < p * 2 → s ≡ d + 2 * r → D < p → m + D + 1 ≡ p * 2 → diff + p * 2 * bit fits ≡ s + m + 1
     → next ≡ cond fits (diff % p) (s % p) → r < D → (bit fits * D + next ≡ s) × (next < D)
 divide_bit true d r D m p diff next s h small e dp c f g lt = divide_fits d r D m p diff next s h e lt dp c f g
 divide_bit false d r D m p diff next s h small e dp c f g lt = divide_not d r D m p diff next s small e lt dp c f g
 
+-- the circuits of a step make a step of a long division
 pub step_makes : (one two three : Circuit) (rest divisor wide minus taken less low same next : List Lit) (digit off on fits : Lit) (v w c e : ℕ)
     → ((a : Assignment) → Satisfies a one.clauses → value a off ≡ false) → ((a : Assignment) → Satisfies a one.clauses → value a on ≡ true)
     → length divisor ≡ length rest → wide ≡ divisor ++ off ∷ [] → minus ≡ negations wide → taken ≡ digit ∷ rest
@@ -108,10 +116,12 @@ pub record Parts (circuit : Circuit) (rest divisor taken minus : List Lit) (digi
   pub taken_in : AreLits circuit taken
   pub minus_in : AreBits circuit (length taken) minus
 
+-- one literal of the circuit
 one_in : (circuit : Circuit) (x : Lit) → IsLit circuit x → AreLits circuit (x ∷ [])
 one_in circuit x h zero d lt = h
 one_in circuit x h (suc k) d lt = absurd (omega arith)
 
+-- the words that a step is made of are words of the circuit
 pub parts : (circuit : Circuit) (rest divisor taken minus : List Lit) (digit off : Lit) → taken ≡ digit ∷ rest → minus ≡ negations (divisor ++ off ∷ [])
     → AreLits circuit rest → AreBits circuit (length rest) divisor → IsLit circuit digit → IsLit circuit off → Parts circuit rest divisor taken minus digit off
 parts circuit rest divisor taken minus digit off e f hr hd h k =
@@ -129,6 +139,7 @@ parts circuit rest divisor taken minus digit off e f hr hd h k =
 
 -- ---- all digits
 
+-- the quotient and the rest of the high digits so far
 pub record Divides (start now : Circuit) (left divisor quotient rest : List Lit) (i : ℕ) : Type 0 where
   pub lefts : AreLits now left
   pub divisor_in : AreBits now (length left) divisor
@@ -137,6 +148,7 @@ pub record Divides (start now : Circuit) (left divisor quotient rest : List Lit)
   pub made : Makes start now ((4 * length left + 3) * i) ((20 * length left + 14) * i)
       (λ a. 0 < word a divisor → (word a quotient * word a divisor + word a rest ≡ word a (drop (length left - i) left)) × (word a rest < word a divisor))
 
+-- before the first digit both are 0
 pub divides_none : (start : Circuit) (left divisor rest : List Lit) (off : Lit) → AreLits start left → AreBits start (length left) divisor → AreBits start (length left) rest → rest ≡ copies (length left) off
     → ((a : Assignment) → Satisfies a start.clauses → value a off ≡ false) → Divides start start left divisor [] rest 0
 unfolding word
@@ -153,12 +165,15 @@ divides_none start left divisor rest off hl hd hr is off_false = record {
       (omega arith, omega arith));
 }
 
+-- one more digit of a quotient
 quotient_step : (f d q D r s H : ℕ) → q * D + r ≡ H → f * D + s ≡ d + 2 * r → (f + 2 * q) * D + s ≡ d + 2 * H
 quotient_step f d q D r s H e g = grind arith
 
+-- one more step has as many gates again
 more_rows : (n i : ℕ) → n * i + n ≤ n * (i + 1)
 more_rows n i = grind arith
 
+-- one more step divides one more digit
 pub divides_more : (start now next : Circuit) (left divisor quotient rest more r : List Lit) (i at : ℕ) (d fits : Lit) → Divides start now left divisor quotient rest i → i < length left → at ≡ length left - 1 - i
     → IsLit next fits → AreBits next (length left) r → more ≡ fits ∷ quotient
     → Makes now next (4 * length left + 3) (20 * length left + 14) (λ a. word a rest < word a divisor
@@ -193,9 +208,11 @@ divides_more start now next left divisor quotient rest more r i at d fits h lt a
       (more_rows (4 * length left + 3) i) (more_rows (20 * length left + 14) i) (λ a s p. p);
 }
 
+-- a quotient and a rest below the divisor are the quotient and the remainder
 quotient_is : (q D r N : ℕ) → q * D + r ≡ N → r < D → (q ≡ N / D) × (r ≡ N % D)
 quotient_is q D r N e lt = (sym (ap (λ (m : ℕ). m / D) (sym e) ∙ div-mul-add q D r lt), sym (ap (λ (m : ℕ). m % D) (sym e) ∙ mod-mul-add q D r lt))
 
+-- after all digits they are those of the word
 pub divides_all : (start now : Circuit) (left divisor quotient rest : List Lit) (i : ℕ) → Divides start now left divisor quotient rest i → i ≡ length left
     → Makes start now ((4 * length left + 3) * length left) ((20 * length left + 14) * length left)
     (λ a. 0 < word a divisor → (word a quotient ≡ word a left / word a divisor) × (word a rest ≡ word a left % word a divisor))
@@ -207,12 +224,14 @@ divides_all start now left divisor quotient rest i h e =
     let all : drop (length left - i) left ≡ left = ap (λ (m : ℕ). drop m left) (let z : length left - i ≡ 0 = omega arith in z) in
     quotient_is (word a quotient) (word a divisor) (word a rest) (word a left) (f.0 ∙ ap (word a) all) f.1)
 
+-- there is room for one more step
 pub digits_room : (n i now start : ℕ) → i < n → now ≤ start + (4 * n + 3) * i → start + (4 * n + 3) * n < 2147483648 → now + 4 * n + 3 < 2147483648
 digits_room n i now start lt le room =
     let p = more_rows (4 * n + 3) i in
     let q = mul-le-mul_left {m = i + 1} {n = n} (4 * n + 3) (omega arith) in
     omega arith
 
+-- a turn of the loop is one more step
 pub divides_turn : (start now next : Circuit) (left divisor quotient rest seen more held r : List Lit) (i at : ℕ) (d fits : Lit) → Divides start now left divisor quotient rest i → i < length left → at ≡ length left - 1 - i
     → seen ≡ rest → held ≡ quotient → IsLit next fits → AreBits next (length seen) r → more ≡ fits ∷ held
     → Makes now next (4 * length seen + 3) (20 * length seen + 14) (λ a. word a seen < word a divisor

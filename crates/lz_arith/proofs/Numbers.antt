@@ -16,9 +16,11 @@ use Rattle.lz_arith.proofs.Dividing.{small_mod}
 
 -- ---- shifts: a stage after the stages before it
 
+-- a factor may be taken modulo the modulus first
 mod_times : (x y p : ℕ) → (x % p * y) % p ≡ (x * y) % p
 mod_times x y p = mul-mod (x % p) y p ∙ ap (λ (m : ℕ). (m * (y % p)) % p) (mod-mod x p) ∙ sym (mul-mod x y p)
 
+-- two shifts are one by the sum
 pub barrel_step : (w c k p : ℕ) → ((w * 2 ^ c) % p * 2 ^ k) % p ≡ (w * 2 ^ (c + k)) % p
 barrel_step w c k p = mod_times (w * 2 ^ c) (2 ^ k) p ∙ ap (λ (m : ℕ). m % p) (mul_assoc w (2 ^ c) (2 ^ k) ∙ ap (λ (m : ℕ). w * m) (sym (pow-add 2 c k)))
 
@@ -43,6 +45,7 @@ word_ones a (suc k) lit e = let h = word_ones a k lit e in rw (e) (double (word 
 
 -- ---- equality: one more bit of the differences
 
+-- one more place of an equality
 pub different_step : (x y z : Bool) (d v w p : ℕ) → d < p → v < p → w < p → eqb d 0 ≡ eqb v w → z ≡ xor x y → eqb (d + p * bit z) 0 ≡ eqb (v + p * bit x) (w + p * bit y)
 different_step true true z d v w p ld lv lw e f = ap (λ (b : Bool). eqb (d + p * bit b) 0) f ∙ none ∙ e ∙ same
   where
@@ -73,6 +76,7 @@ different_step false false z d v w p ld lv lw e f = ap (λ (b : Bool). eqb (d + 
 abbrev pub flipped : ℕ → ℕ → ℕ
 flipped h n = cond (ltb n h) (n + h) (n - h)
 
+-- the word with its top bit in the other sign
 pub word_flipped : (a : Assignment) (xs : List Lit) (top : Lit) (not_top : Lit) → value a not_top ≡ not (value a top)
     → word a (xs ++ not_top ∷ []) ≡ flipped (2 ^ length xs) (word a (xs ++ top ∷ []))
 word_flipped a xs top not_top e =
@@ -88,6 +92,7 @@ word_flipped a xs top not_top e =
 abbrev pub negative : ℕ → ℕ → Bool
 negative h n = not (ltb n h)
 
+-- the absolute value of the number that a word stands for
 abbrev pub size : ℕ → ℕ → ℕ
 size h n = cond (ltb n h) n (h + h - n)
 
@@ -95,6 +100,7 @@ size h n = cond (ltb n h) n (h + h - n)
 abbrev pub signed_lt : ℕ → ℕ → ℕ → Bool
 signed_lt h n m = cond (negative h n) (cond (negative h m) (ltb (size h m) (size h n)) true) (cond (negative h m) false (ltb n m))
 
+-- the order with sign is the order of the words with their top bits flipped
 pub flipped_order : (h n m : ℕ) → n < h + h → m < h + h → ltb (flipped h n) (flipped h m) ≡ signed_lt h n m
 flipped_order h n m ln lm = grind (arith, nat_tests)
 
@@ -114,6 +120,7 @@ size_is h n m lt e some = by (ltb n h) refl
 abbrev pub signed_by : ℕ → ℕ → ℤ
 signed_by h n = cond (ltb n h) (pos n) (neg_ℤ (pos (h + h - n)))
 
+-- so on whole numbers
 pub signed_order : (h n m : ℕ) → n < h + h → m < h + h → 0 < h → ltb (flipped h n) (flipped h m) ≡ lt_z (signed_by h n) (signed_by h m)
 signed_order h n m ln lm pos_h = by (ltb n h) (ltb m h) refl refl
   where
@@ -139,6 +146,7 @@ quotient_by_sizes false true x zero h k = let p = k refl in absurd (omega arith)
 quotient_by_sizes false true x (suc y) h k = refl
 quotient_by_sizes false false x y h k = refl
 
+-- a remainder is that of the sizes, with the sign of the left side
 pub remainder_by_sizes : (s t : Bool) (x y : ℕ) → (s ≡ true → 0 < x) → (t ≡ true → 0 < y) → rem_z (with_sign s x) (with_sign t y) ≡ with_sign s (x % y)
 remainder_by_sizes true true zero y h k = let p = h refl in absurd (omega arith)
 remainder_by_sizes true true (suc x) zero h k = let p = k refl in absurd (omega arith)
@@ -149,6 +157,7 @@ remainder_by_sizes false true x zero h k = let p = k refl in absurd (omega arith
 remainder_by_sizes false true x (suc y) h k = refl
 remainder_by_sizes false false x y h k = refl
 
+-- a number with sign is its size with its sign
 pub signed_by_size : (h n : ℕ) → signed_by h n ≡ with_sign (negative h n) (size h n)
 signed_by_size h n = by (ltb n h) refl
   where

@@ -12,10 +12,12 @@ use Rattle.lz_arith.specs.Bits.{word, copies}
 use Rattle.lz_arith.specs.Open.{KeepsTest}
 use Rattle.lz_arith.proofs.Truth.{clause_word}
 
+-- one of three is true, grouped either way
 or_assoc : (x y z : Bool) → (x || (y || z)) ≡ ((x || y) || z)
 or_assoc true y z = refl
 or_assoc false y z = refl
 
+-- false takes nothing away
 or_none : (x : Bool) → (x || false) ≡ x
 or_none true = refl
 or_none false = refl
@@ -26,6 +28,7 @@ unfolding clause_value
 clause_push a [] x = or_none (value a x)
 clause_push a (y ∷ ys) x = ap (λ (b : Bool). value a y || b) (clause_push a ys x) ∙ or_assoc (value a y) (clause_value a ys) (value a x)
 
+-- true makes all true
 or_true : (x : Bool) → (x || true) ≡ true
 or_true true = refl
 or_true false = refl
@@ -37,6 +40,7 @@ clause_holds a [] k d lt e = absurd (omega arith)
 clause_holds a (x ∷ xs) zero d lt e = ap (λ (b : Bool). b || clause_value a xs) e
 clause_holds a (x ∷ xs) (suc k) d lt e = ap (λ (b : Bool). value a x || b) (clause_holds a xs k d (omega arith) e) ∙ or_true (value a x)
 
+-- before the first literal none is open
 pub open_none : (on off : Lit) (bits : List Lit) → KeepsTest on off (take 0 bits) []
 open_none on off bits = record {
   says = λ a e f. refl;
@@ -70,6 +74,7 @@ open_more on off lit bits open_ next i d h lt e f =
       few = omega (arith, h.few, length_push (take i bits) lit, length_push open_ lit);
     }
 
+-- after all literals the open ones decide the test
 pub open_all : (on off : Lit) (bits open_ : List Lit) (i : ℕ) → KeepsTest on off (take i bits) open_ → length bits ≤ i → KeepsTest on off bits open_
 open_all on off bits open_ i h le = subst (λ (xs : List Lit). KeepsTest on off xs open_) (take_all i bits le) h
 
@@ -88,11 +93,13 @@ open_true on off lit bits open_ i d lt e same f = subst (λ (xs : List Lit). Kee
 
 -- ---- tests that take nothing
 
+-- no literal is true where there is none
 clause_empty : (a : Assignment) (xs : List Lit) → length xs ≡ 0 → clause_value a xs ≡ false
 unfolding clause_value
 clause_empty a [] e = refl
 clause_empty a (x ∷ xs) e = absurd (omega arith)
 
+-- of one literal that one decides
 clause_single : (a : Assignment) (xs : List Lit) (d : Lit) → length xs ≡ 1 → clause_value a xs ≡ value a (get_or xs 0 d)
 unfolding clause_value
 clause_single a [] d e = absurd (omega arith)

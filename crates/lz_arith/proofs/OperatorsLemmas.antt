@@ -25,6 +25,7 @@ truth_makes circuit lit off n above r off_false e f =
     plain : (b : ℕ) → b + 2 * 0 ≡ b
     plain b = omega arith
 
+-- a literal with false ones above is a word
 pub truth_bits : (circuit : Circuit) (lit off : Lit) (n : ℕ) (above r : List Lit) → IsLit circuit lit → IsLit circuit off → above ≡ copies n off → r ≡ lit ∷ above → AreBits circuit (n + 1) r
 truth_bits circuit lit off n above r h k e f = record {
   length = ap (λ (xs : List Lit). length xs) f ∙ ap suc (ap (λ (xs : List Lit). length xs) e ∙ length-copies n off) ∙ one n;
@@ -56,6 +57,7 @@ turned_of one two lit own turned X v c e h =
     by true a = value-negated a lit
     by false a = refl
 
+-- the opposite of the opposite
 not_not : (b : Bool) → not (not b) ≡ b
 not_not true = refl
 not_not false = refl
@@ -126,6 +128,7 @@ tests_make one two three four left right r first second lit G ll lr h k l m =
 amount_is : (a : Assignment) (right amount : List Lit) → length right ≡ 32 → amount ≡ take 5 right → word a amount ≡ word a right % 32
 amount_is a right amount long e = ap (word a) e ∙ word_front a 5 right (omega arith)
 
+-- the barrel up makes a left shift
 pub left_shift_makes : (old new : Circuit) (left right amount r : List Lit) → length left ≡ 32 → length right ≡ 32 → amount ≡ take 5 right → length amount ≡ 5
     → Makes old new (length left * length amount) (6 * length left * length amount) (λ a. word a r ≡ moved_up (2 ^ length left) (word a left) (word a amount))
     → Makes old new 160 960 (λ a. word a r ≡ (word a left * 2 ^ (word a right % 32)) % value_bound)
@@ -133,6 +136,7 @@ left_shift_makes old new left right amount r ll lr e five h =
     makes_so old new (length left * length amount) 160 (6 * length left * length amount) 960 _ _ h (rw (ll, five) (omega arith)) (rw (ll, five) (omega arith))
     (λ a s p. p ∙ ap (λ (n : ℕ). (word a left * 2 ^ word a amount) % 2 ^ n) ll ∙ ap (λ (k : ℕ). (word a left * 2 ^ k) % value_bound) (amount_is a right amount lr e))
 
+-- the barrel down, filled by the sign, makes a right shift
 pub right_shift_makes : (old new : Circuit) (t : IntType) (left right amount r : List Lit) (fill : Lit) → length left ≡ 32 → length right ≡ 32 → amount ≡ take 5 right → length amount ≡ 5
     → ((a : Assignment) → Satisfies a old.clauses → value a fill ≡ is_negative t (word a left))
     → Makes old new (length left * length amount) (6 * length left * length amount) (λ a. word a r ≡ moved_down (2 ^ length left) (value a fill) (word a left) (word a amount))

@@ -10,12 +10,15 @@ use Rattle.lz_arith.proofs.Words.{word_take}
 use Rattle.lz_arith.proofs.Shifting.{word_moved, word_copies}
 use Rattle.lz_arith.proofs.Adding.{are_lits_more}
 
+-- the second summand may be taken modulo the modulus first
 add_mod_right : (s x p : ℕ) → (s + x % p) % p ≡ (s + x) % p
 add_mod_right s x p = add-mod s (x % p) p ∙ ap (λ (m : ℕ). (s % p + m) % p) (mod-mod x p) ∙ sym (add-mod s x p)
 
+-- so may the first
 add_mod_left : (s x p : ℕ) → (s % p + x) % p ≡ (s + x) % p
 add_mod_left s x p = ap (λ (m : ℕ). m % p) (add_comm (s % p) x) ∙ add_mod_right x s p ∙ ap (λ (m : ℕ). m % p) (add_comm x s)
 
+-- one row adds the left word at its place where its digit is 1
 row_step : (d : Bool) (s x p m k o : ℕ) → m ≡ x % p → k ≡ bit d * m → o ≡ 0 → (s + k + o) % p ≡ (s + bit d * x) % p
 row_step true s x p m k o e f g = ap (λ (n : ℕ). n % p) (one s k o (x % p) (f ∙ ap (λ (n : ℕ). 1 * n) e) g) ∙ add_mod_right s x p ∙ ap (λ (n : ℕ). n % p) (two s x)
   where
@@ -29,6 +32,7 @@ row_step false s x p m k o e f g = ap (λ (n : ℕ). n % p) (none s k o m x f g)
     none : (s k o m x : ℕ) → k ≡ 0 * m → o ≡ 0 → s + k + o ≡ s + 0 * x
     none s k o m x h l = omega arith
 
+-- the circuits of a row add it to the sum
 pub row_makes : (one two three : Circuit) (digit off : Lit) (place : ℕ) (left moved masked sum r : List Lit)
     → ((a : Assignment) → Satisfies a one.clauses → value a off ≡ false) → place ≤ length left → moved ≡ copies place off ++ take (length left - place) left → length moved ≡ length left → length sum ≡ length left
     → Makes one two (length moved) (3 * length moved) (λ a. word a masked ≡ bit (value a digit) * word a moved)
@@ -47,16 +51,19 @@ row_makes one two three digit off place left moved masked sum r off_false le is 
 
 -- ---- all rows
 
+-- the product with the low bits so far
 pub record Multiplies (start now : Circuit) (left right sum : List Lit) (i : ℕ) : Type 0 where
   pub lefts : AreLits now left
   pub rights : AreLits now right
   pub sum_in : AreBits now (length left) sum
   pub made : Makes start now (4 * length left * i) (17 * length left * i) (λ a. word a sum ≡ (word a left * word a (take i right)) % 2 ^ length left)
 
+-- a product with 0 is 0
 zero_mod : (l p : ℕ) → 0 ≡ (l * 0) % p
 zero_mod l zero = grind arith
 zero_mod l (suc p) = grind arith
 
+-- before the first row the sum is 0
 pub multiplies_none : (start : Circuit) (left right sum : List Lit) (off : Lit) → AreLits start left → AreLits start right → AreBits start (length left) sum → sum ≡ copies (length left) off
     → ((a : Assignment) → Satisfies a start.clauses → value a off ≡ false) → Multiplies start start left right sum 0
 unfolding word
@@ -69,6 +76,7 @@ multiplies_none start left right sum off hl hr hs is off_false = record {
       (omega arith) (omega arith) (λ a s p. p ∙ zero_mod (word a left) (2 ^ length left));
 }
 
+-- one more digit of a product
 product_step : (d : Bool) (l r k p s : ℕ) → s ≡ (l * r) % p → (s + bit d * (l * k)) % p ≡ (l * (r + k * bit d)) % p
 product_step true l r k p s e = ap (λ (n : ℕ). (n + 1 * (l * k)) % p) e ∙ add_mod_left (l * r) (1 * (l * k)) p ∙ ap (λ (n : ℕ). n % p) (spread l r k)
   where
@@ -79,9 +87,11 @@ product_step false l r k p s e = ap (λ (n : ℕ). (n + 0 * (l * k)) % p) e ∙ 
     spread : (l r k : ℕ) → l * r + 0 * (l * k) ≡ l * (r + k * 0)
     spread l r k = grind arith
 
+-- one more row has as many gates again
 row_more : (n i : ℕ) → n * i + n ≤ n * (i + 1)
 row_more n i = grind arith
 
+-- one more row multiplies by one more bit
 pub multiplies_more : (start now next : Circuit) (left right sum r : List Lit) (i : ℕ) (d : Lit) → Multiplies start now left right sum i → i < length right
     → AreBits next (length left) r
     → Makes now next (4 * length left) (17 * length left) (λ a. word a r ≡ (word a sum + bit (value a (get_or right i d)) * (word a left * 2 ^ i)) % 2 ^ length left)
@@ -98,6 +108,7 @@ multiplies_more start now next left right sum r i d h lt r_in made = record {
       (row_more (4 * length left) i) (row_more (17 * length left) i) (λ a s p. p);
 }
 
+-- after all rows the sum is the product
 pub multiplies_all : (start now : Circuit) (left right sum : List Lit) (i : ℕ) → Multiplies start now left right sum i → i ≡ length left → i ≡ length right
     → Makes start now (4 * length left * length left) (17 * length left * length left) (λ a. word a sum ≡ (word a left * word a right) % 2 ^ length left)
 multiplies_all start now left right sum i h e f =
@@ -105,6 +116,7 @@ multiplies_all start now left right sum i h e f =
     (mul-le-mul_left (4 * length left) (omega arith)) (mul-le-mul_left (17 * length left) (omega arith))
     (λ a s p. p ∙ ap (λ (xs : List Lit). (word a left * word a xs) % 2 ^ length left) (take_all i right (omega arith)))
 
+-- there is room for one more row
 pub rows_room : (n i now start : ℕ) → i < n → now ≤ start + n * 4 * 0 + 4 * n * i → start + 4 * n * n < 2147483648 → now + 4 * n < 2147483648
 rows_room n i now start lt le room =
     let p = row_more (4 * n) i in

@@ -21,6 +21,7 @@ plain_quotient_makes old new left divisor q r e h =
     makes_so old new ((4 * length left + 3) * length left) 4577 ((20 * length left + 14) * length left) 22852 _ _ h (rw e (omega arith)) (rw e (omega arith))
     (λ a s p some. (p some).0 ∙ sym (small_mod (word a left / word a divisor) value_bound (omega (arith, div-le_self (word a left) (word a divisor), word_small a left e))))
 
+-- without sign the rest is the remainder
 pub plain_remainder_makes : (old new : Circuit) (left divisor q r : List Lit) → length left ≡ 32
     → Makes old new ((4 * length left + 3) * length left) ((20 * length left + 14) * length left)
     (λ a. 0 < word a divisor → (word a q ≡ word a left / word a divisor) × (word a r ≡ word a left % word a divisor))
@@ -33,6 +34,7 @@ plain_remainder_makes old new left divisor q r e h =
 abbrev pub Turned : Lit → List Lit → List Lit → Assignment → Type 0
 Turned test bits r a = word a r ≡ cond (value a test) ((value_bound - word a bits) % value_bound) (word a bits)
 
+-- a word that is turned where a literal is true
 turned_makes : (old new : Circuit) (test : Lit) (bits r : List Lit) → length bits ≡ 32
     → Makes old new (4 * length bits) (20 * length bits) (λ a. word a r ≡ cond (value a test) ((2 ^ length bits - word a bits) % 2 ^ length bits) (word a bits))
     → Makes old new 128 640 (Turned test bits r)
@@ -40,6 +42,7 @@ turned_makes old new test bits r e h =
     makes_so old new (4 * length bits) 128 (20 * length bits) 640 _ _ h (omega arith) (omega arith)
     (λ a s p. subst (λ (n : ℕ). word a r ≡ cond (value a test) ((2 ^ n - word a bits) % 2 ^ n) (word a bits)) e p)
 
+-- quotient and rest of the sizes
 divided_makes : (old new : Circuit) (size by held_size held_by q r : List Lit) → held_size ≡ size → held_by ≡ by → length held_size ≡ 32
     → Makes old new ((4 * length held_size + 3) * length held_size) ((20 * length held_size + 14) * length held_size)
     (λ a. 0 < word a held_by → (word a q ≡ word a held_size / word a held_by) × (word a r ≡ word a held_size % word a held_by))

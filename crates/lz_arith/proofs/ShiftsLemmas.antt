@@ -18,9 +18,11 @@ use Rattle.lz_arith.proofs.Dividing.{small_mod}
 
 -- ---- down by a fixed number of places
 
+-- the last literals of a list are literals of the circuit
 pub drop_in : (circuit : Circuit) (n : ℕ) (xs : List Lit) → AreLits circuit xs → AreLits circuit (drop n xs)
 drop_in circuit n xs h = All-drop (IsLit circuit) n xs h
 
+-- a word moved down is a word of the circuit
 pub down_bits : (circuit : Circuit) (fill : Lit) (k : ℕ) (xs ys : List Lit) → IsLit circuit fill → AreLits circuit xs → k ≤ length xs → ys ≡ drop k xs ++ copies k fill → AreBits circuit (length xs) ys
 down_bits circuit fill k xs ys h all le is = record {
   length = ap (λ (zs : List Lit). length zs) is ∙ length-append (drop k xs) (copies k fill) ∙ (let p = length-drop k xs in let q = length-copies k fill in omega arith);
@@ -38,6 +40,7 @@ ones_div m p q r d lt e =
     same : (mp pq dp p r : ℕ) → r < p → mp ≡ pq + p + dp → mp - 1 - (r + pq) ≡ dp + (p - 1 - r)
     same mp pq dp p r lt e = omega arith
 
+-- a word moved down and filled with ones, as a number
 filled_number : (m p q r d bound w ones : ℕ) → r < p → m ≡ q + 1 + d → bound ≡ m * p → r + p * q ≡ w → ones + 1 ≡ p → q + m * ones ≡ bound - 1 - (bound - 1 - w) / p
 filled_number m p q r d bound w ones lt e f g o =
     let down : (bound - 1 - w) / p ≡ d = ap (λ (x : ℕ). (x - 1 - w) / p) f ∙ ap (λ (x : ℕ). (m * p - 1 - x) / p) (sym g) ∙ ones_div m p q r d lt e in
@@ -78,15 +81,18 @@ word_down_filled a fill k xs le =
 
 -- ---- one move after the other
 
+-- two moves up are one by the sum
 pub up_after_up : (bound w j k : ℕ) → moved_up bound (moved_up bound w j) k ≡ moved_up bound w (j + k)
 up_after_up bound w j k = barrel_step w j k bound
 
+-- a move up by none changes nothing
 pub up_by_none : (bound w : ℕ) → w < bound → moved_up bound w 0 ≡ w
 up_by_none bound w lt = ap (λ (m : ℕ). m % bound) (by w) ∙ small_mod w bound lt
   where
     by : (w : ℕ) → w * 1 ≡ w
     by w = omega arith
 
+-- two moves down are one by the sum
 pub down_after_down : (bound : ℕ) (f : Bool) (w j k : ℕ) → w < bound → moved_down bound f (moved_down bound f w j) k ≡ moved_down bound f w (j + k)
 down_after_down bound true w j k lt =
     ap (λ (m : ℕ). bound - 1 - m / 2 ^ k) (turned (bound - 1) ((bound - 1 - w) / 2 ^ j) (div-le_self (bound - 1 - w) (2 ^ j)) w)
@@ -96,6 +102,7 @@ down_after_down bound true w j k lt =
     turned top x le v = omega arith
 down_after_down bound false w j k lt = div-div-eq-div-mul w (2 ^ j) (2 ^ k) ∙ ap (λ (m : ℕ). w / m) (sym (pow-add 2 j k))
 
+-- a move down by none changes nothing
 pub down_by_none : (bound : ℕ) (f : Bool) (w : ℕ) → w < bound → moved_down bound f w 0 ≡ w
 down_by_none bound true w lt = ap (λ (m : ℕ). bound - 1 - m) (div-one (bound - 1 - w)) ∙ turned bound w lt
   where
@@ -105,6 +112,7 @@ down_by_none bound false w lt = div-one w
 
 -- ---- one stage
 
+-- a stage down moves down where its test is true
 pub stage_down_makes : (old new : Circuit) (test fill : Lit) (by : ℕ) (bits held r : List Lit)
     → by ≤ length bits → held ≡ drop by bits ++ copies by fill → length held ≡ length bits
     → Makes old new (length held) (6 * length held) (λ a. word a r ≡ cond (value a test) (word a held) (word a bits))
@@ -113,6 +121,7 @@ stage_down_makes old new test fill by bits held r le is long h =
     makes_so old new (length held) (length bits) (6 * length held) (6 * length bits) _ _ h (omega arith) (omega arith)
     (λ a s p. p ∙ ap (λ (m : ℕ). cond (value a test) m (word a bits)) (ap (word a) is ∙ word_down_filled a fill by bits le))
 
+-- a stage up moves up where its test is true
 pub stage_up_makes : (old new : Circuit) (test off : Lit) (by : ℕ) (bits held r : List Lit)
     → ((a : Assignment) → Satisfies a old.clauses → value a off ≡ false) → by ≤ length bits → held ≡ copies by off ++ take (length bits - by) bits → length held ≡ length bits
     → Makes old new (length held) (6 * length held) (λ a. word a r ≡ cond (value a test) (word a held) (word a bits))
@@ -135,6 +144,7 @@ pub record IsMove (S : Assignment → ℕ → ℕ → ℕ) (bound : ℕ) : Type 
   pub then : (a : Assignment) (w j k : ℕ) → w < bound → S a (S a w j) k ≡ S a w (j + k)
   pub none : (a : Assignment) (w : ℕ) → w < bound → S a w 0 ≡ w
 
+-- before the first stage nothing is moved
 pub shifts_none : (start : Circuit) (S : Assignment → ℕ → ℕ → ℕ) (bits amount moved : List Lit) → IsMove S (2 ^ length bits) → AreLits start bits → AreLits start amount → moved ≡ bits → Shifts start start S bits amount moved 1 0
 unfolding word
 shifts_none start S bits amount moved move h k is = record {
@@ -146,9 +156,11 @@ shifts_none start S bits amount moved move h k is = record {
       (omega arith) (omega arith) (λ a s p. p);
 }
 
+-- one more stage has as many gates again
 row_more : (n i : ℕ) → n * i + n ≤ n * (i + 1)
 row_more n i = grind arith
 
+-- one more stage moves by its power where its bit is 1
 stage_step : (t : Bool) (S : ℕ → ℕ → ℕ) (r m w k p : ℕ) → r ≡ cond t (S m p) m → m ≡ S w k → S (S w k) p ≡ S w (k + p) → r ≡ S w (k + p * bit t)
 stage_step true S r m w k p e f g = e ∙ ap (λ (x : ℕ). S x p) f ∙ g ∙ ap (S w) (by k p)
   where
@@ -159,6 +171,7 @@ stage_step false S r m w k p e f g = e ∙ f ∙ ap (S w) (by k p)
     by : (k p : ℕ) → k ≡ k + p * 0
     by k p = omega arith
 
+-- one more stage is one more bit of the amount
 pub shifts_more : (start now next : Circuit) (S : Assignment → ℕ → ℕ → ℕ) (bits amount moved held r : List Lit) (by i : ℕ) (d : Lit) → IsMove S (2 ^ length bits)
     → Shifts start now S bits amount moved by i → i < length amount → held ≡ moved → AreBits next (length held) r
     → Makes now next (length held) (6 * length held) (λ a. word a r ≡ cond (value a (get_or amount i d)) (S a (word a held) by) (word a held))
@@ -190,6 +203,7 @@ shifts_turn start now next T bits amount moved held r by i d move h lt is r_in m
     (subst (λ (n : ℕ). Makes now next (length held) (6 * length held) (λ a. word a r ≡ cond (value a (get_or amount i d)) (T n a (word a held) by) (word a held)))
     (ap (λ (xs : List Lit). length xs) is ∙ h.moved_in.length) made)
 
+-- after all stages the word is moved by the amount
 pub shifts_all : (start now : Circuit) (S : Assignment → ℕ → ℕ → ℕ) (bits amount moved : List Lit) (by i : ℕ) → Shifts start now S bits amount moved by i → i ≡ length amount
     → Makes start now (length bits * length amount) (6 * length bits * length amount) (λ a. word a moved ≡ S a (word a bits) (word a amount))
 shifts_all start now S bits amount moved by i h e =
@@ -204,6 +218,7 @@ stage_room n k i now start lt le room =
     let q = mul-le-mul_left {m = i + 1} {n = k} n (omega arith) in
     omega arith
 
+-- each stage moves within the word
 pub stage_within : (n k i by : ℕ) → i < k → by ≡ 2 ^ i → 2 ^ k ≤ n → (by ≤ n) × (by * 2 ≤ n)
 stage_within n k i by lt e le =
     let p = pow_mono {i = i} {j = k} (omega arith) in
@@ -211,12 +226,14 @@ stage_within n k i by lt e le =
     let t = pow_twice i in
     (omega arith, omega arith)
 
+-- moves up are moves
 pub ups_move : (bound : ℕ) → IsMove (λ a. moved_up bound) bound
 ups_move bound = record {
   then = λ a w j k lt. up_after_up bound w j k;
   none = λ a w lt. up_by_none bound w lt;
 }
 
+-- moves down are moves
 pub downs_move : (fill : Lit) (bound : ℕ) → IsMove (λ a. moved_down bound (value a fill)) bound
 downs_move fill bound = record {
   then = λ a w j k lt. down_after_down bound (value a fill) w j k lt;

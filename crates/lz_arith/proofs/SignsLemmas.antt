@@ -55,6 +55,7 @@ word_top_flipped a xs n e =
 pub length-top_flipped : (xs : List Lit) → 0 < length xs → length (top_flipped xs) ≡ length xs
 length-top_flipped xs some = length_push (take (length xs - 1) xs) _ ∙ (let p = length-take-le (length xs - 1) xs (omega arith) in omega arith)
 
+-- a number less 2^32 is what lacks to 2^32, below zero
 below_zero : (n : ℕ) → n < value_bound → pos n -ℤ pos value_bound ≡ neg_ℤ (pos (value_bound - n))
 below_zero n lt = omega (arith, ints)
 
@@ -81,6 +82,7 @@ signed_less_makes old new left right low high less ll lr e f long h =
 
 -- ---- quotients and remainders
 
+-- a size with its sign, wrapped
 wrapped_sign : (b : Bool) (m : ℕ) → m < value_bound → wrapped (with_sign b m) ≡ cond b ((value_bound - m) % value_bound) m
 wrapped_sign true zero lt = refl
 wrapped_sign true (suc k) lt = by k lt
@@ -89,6 +91,7 @@ wrapped_sign true (suc k) lt = by k lt
     by k lt = omega arith
 wrapped_sign false m lt = small_mod m value_bound lt
 
+-- a number below zero has a size above 0
 some_size : (n : ℕ) → n < value_bound → negative sign_bound n ≡ true → 0 < size sign_bound n
 some_size n lt e = by (ltb n sign_bound) refl
   where
@@ -96,6 +99,7 @@ some_size n lt e = by (ltb n sign_bound) refl
     by true f = absurd (let g : not true ≡ true = sym (ap not f) ∙ e in cc)
     by false f = omega arith
 
+-- a number that is not 0 has a size above 0
 size_positive : (n : ℕ) → n < value_bound → 0 < n → 0 < size sign_bound n
 size_positive n lt some = by (ltb n sign_bound)
   where
@@ -103,6 +107,7 @@ size_positive n lt some = by (ltb n sign_bound)
     by true = some
     by false = omega arith
 
+-- no size is above 2^31
 size_at_most : (n : ℕ) → n < value_bound → size sign_bound n ≤ sign_bound
 size_at_most n lt = by (ltb n sign_bound) refl
   where
@@ -147,12 +152,15 @@ remainder_number l d x y q r ll ld some ex ey eq er =
 
 -- ---- shifts
 
+-- a shifted word is a word
 low_number : (n k : ℕ) → n < value_bound → n / 2 ^ k < value_bound
 low_number n k lt = omega (arith, div-le_self n (2 ^ k))
 
+-- a shift down of a number that is not below zero
 pos_shift : (n k : ℕ) → n < value_bound → wrapped (int_shr (pos n) k) ≡ n / 2 ^ k
 pos_shift n k lt = small_mod (n / 2 ^ k) value_bound (low_number n k lt)
 
+-- a shift down of a number below zero
 negative_shift : (n k : ℕ) → n < value_bound → wrapped (int_shr (pos n -ℤ pos value_bound) k) ≡ value_bound - 1 - (value_bound - 1 - n) / 2 ^ k
 negative_shift n k lt =
     ap (λ (z : ℤ). wrapped (int_shr z k)) (let e : pos n -ℤ pos value_bound ≡ negsuc (value_bound - 1 - n) = omega (arith, ints) in e)

@@ -17,14 +17,17 @@ abbrev pub rows : Lit → List Lit → List (List Lit)
 rows t [] = []
 rows t (lit ∷ lits) = (negated lit ∷ t ∷ []) ∷ rows t lits
 
+-- the rows of bits and of one more
 rows_push : (t : Lit) (xs : List Lit) (y : Lit) → rows t (xs ++ y ∷ []) ≡ rows t xs ++ (negated y ∷ t ∷ []) ∷ []
 rows_push t [] y = refl
 rows_push t (x ∷ xs) y = ap (λ (cs : List (List Lit)). (negated x ∷ t ∷ []) ∷ cs) (rows_push t xs y)
 
+-- each bit has one row
 length-rows : (t : Lit) (xs : List Lit) → length (rows t xs) ≡ length xs
 length-rows t [] = refl
 length-rows t (x ∷ xs) = ap suc (length-rows t xs)
 
+-- a row is true where the test is
 row_true : (x t : Bool) → t ≡ true → (not x || (t || false)) ≡ true
 row_true true t e = rw e refl
 row_true false t e = refl
@@ -35,10 +38,12 @@ unfolding Satisfies clause_value
 rows_true a t [] e = tt
 rows_true a t (x ∷ xs) e = (rw value-negated (row_true (value a x) (value a t) e), rows_true a t xs e)
 
+-- where one of two is false, both are
 or_false : (x y : Bool) → false ≡ (x || y) → (x ≡ false) × (false ≡ y)
 or_false true y e = absurd cc
 or_false false y e = (refl, e)
 
+-- where each bit is false, each row is true
 rows_false : (a : Assignment) (t : Lit) (xs : List Lit) → false ≡ clause_value a xs → Satisfies a (rows t xs)
 unfolding Satisfies clause_value
 rows_false a t [] e = tt
@@ -46,11 +51,13 @@ rows_false a t (x ∷ xs) e =
     let f = or_false (value a x) (clause_value a xs) e in
     (rw (value-negated, f.0) refl, rows_false a t xs f.1)
 
+-- a true row of a true bit makes the test true
 only_true : (x t : Bool) → (not x || (t || false)) ≡ true → x ≡ true → t ≡ true
 only_true x true h e = refl
 only_true true false h e = h
 only_true false false h e = e
 
+-- where one of two makes the test true, it is
 either_true : (x v t : Bool) → (x || v) ≡ true → (x ≡ true → t ≡ true) → (v ≡ true → t ≡ true) → t ≡ true
 either_true true v t e h k = h refl
 either_true false v t e h k = k e
@@ -62,15 +69,18 @@ rows_only a t [] s e = absurd cc
 rows_only a t (x ∷ xs) s e =
     either_true (value a x) (clause_value a xs) (value a t) e (only_true (value a x) (value a t) (rw value-negated at s.0)) (rows_only a t xs s.1)
 
+-- two truth values are equal where each follows from the other
 test_same : (t v : Bool) → (t ≡ true → v ≡ true) → (v ≡ true → t ≡ true) → t ≡ v
 test_same true v h k = sym (h refl)
 test_same false true h k = k refl
 test_same false false h k = refl
 
+-- a true test makes some bit true
 last_true : (t v : Bool) → (not t || v) ≡ true → t ≡ true → v ≡ true
 last_true true v h e = h
 last_true false v h e = absurd cc
 
+-- the rows are clauses over the variables
 rows_below : (n : ℕ) (t : Lit) (xs : List Lit) → variable_of t < n → All (λ lit. variable_of lit < n) xs → AreBelow n (rows t xs)
 unfolding AreBelow
 rows_below n t [] h all = tt
@@ -78,10 +88,12 @@ rows_below n t (x ∷ xs) h all =
     let first : variable_of (negated x) < n = omega (arith, variable_of-negated x, all 0 x (omega arith)) in
     (record { some = omega arith; lits = below_two n _ _ first h }, rows_below n t xs h (λ k d lt. all (suc k) d (omega arith)))
 
+-- a literal and others of fewer variables
 all_more : (n : ℕ) (x : Lit) (xs : List Lit) → variable_of x < n + 1 → All (λ lit. variable_of lit < n) xs → All (λ lit. variable_of lit < n + 1) (x ∷ xs)
 all_more n x xs h all zero d lt = h
 all_more n x xs h all (suc k) d lt = let p = all k d (omega arith) in omega (arith, p)
 
+-- who agree on the variables agree on a clause over them
 clause_settled : (n : ℕ) (a b : Assignment) (xs : List Lit) → Agree n a b → All (λ lit. variable_of lit < n) xs → clause_value a xs ≡ clause_value b xs
 unfolding clause_value
 clause_settled n a b [] h all = refl
@@ -89,6 +101,7 @@ clause_settled n a b (x ∷ xs) h all =
     ap (λ (v : Bool). v || clause_value a xs) (value_agrees n a b x h (all 0 x (omega arith)))
     ∙ ap (λ (v : Bool). value b x || v) (clause_settled n a b xs h (λ k d lt. all (suc k) d (omega arith)))
 
+-- one more bit makes a word that is not 0
 bit_more : (b v : Bool) (w : ℕ) → v ≡ not (eqb w 0) → (b || v) ≡ not (eqb (bit b + 2 * w) 0)
 bit_more true v w e = odd
   where
@@ -105,19 +118,22 @@ unfolding clause_value word
 clause_word a [] = refl
 clause_word a (x ∷ xs) = bit_more (value a x) (clause_value a xs) (word a xs) (clause_word a xs)
 
+-- the long clause holds where the test has the value of the clause
 last_holds : (t v : Bool) → t ≡ v → (not t || v) ≡ true
 last_holds true v e = sym e
 last_holds false v e = refl
 
+-- so do the rows
 rows_hold : (a : Assignment) (t : Lit) (xs : List Lit) (b : Bool) → value a t ≡ b → b ≡ clause_value a xs → Satisfies a (rows t xs)
 rows_hold a t xs true e f = rows_true a t xs e
 rows_hold a t xs false e f = rows_false a t xs f
 
+-- the rows and the long clause make the truth test
 pub truth_test_makes : (old new : Circuit) (t : Lit) (bits : List Lit) → t.0 ≡ 2 * old.variables → new.variables ≡ old.variables + 1 → AreLits old bits
-    → new.clauses ≡ (old.clauses ++ rows t bits) ++ (negated t ∷ bits) ∷ []
+    → new.clauses ≡ (old.clauses ++ rows t bits) ++ (negated t ∷ bits) ∷ [] → new.spent ≡ old.spent
     → Makes old new 1 (length bits + 1) (λ a. value a t ≡ not (eqb (word a bits) 0))
 unfolding Satisfies clause_value AreBelow
-truth_test_makes old new t bits at more all clauses =
+truth_test_makes old new t bits at more all clauses working =
     let n = old.variables + 1 in
     let t_n : variable_of t < old.variables + 1 = omega (arith, variable_of-positive t old.variables at) in
     let nt_n : variable_of (negated t) < old.variables + 1 = omega (arith, variable_of-negated t, t_n) in
@@ -134,7 +150,8 @@ truth_test_makes old new t bits at more all clauses =
     let front = satisfies_front a (rows t bits) ((negated t ∷ bits) ∷ []) s in
     let back = satisfies_back a (rows t bits) ((negated t ∷ bits) ∷ []) s in
     let own = rw value-negated at back.0 in
-    test_same (value a t) (clause_value a bits) (last_true (value a t) (clause_value a bits) own) (rows_only a t bits front)) in
+    test_same (value a t) (clause_value a bits) (last_true (value a t) (clause_value a bits) own) (rows_only a t bits front))
+    working in
     makes_so old new 1 1 (length bits + 1) (length bits + 1) _ _ made (omega arith) (omega arith) (λ a s p. p ∙ clause_word a bits)
 
 -- what the loop keeps
@@ -142,9 +159,11 @@ pub record Tests (start now : Circuit) (t : Lit) (bits : List Lit) (i : ℕ) : T
   pub variables : now.variables ≡ start.variables + 1
   pub clauses : now.clauses ≡ start.clauses ++ rows t (take i bits)
 
+-- before the first bit there is no row
 pub tests_none : (start now : Circuit) (t : Lit) (bits : List Lit) → now.variables ≡ start.variables + 1 → now.clauses ≡ start.clauses → Tests start now t bits 0
 tests_none start now t bits e f = record { variables = e; clauses = f ∙ sym (append-nil start.clauses) }
 
+-- one more bit has one more row
 pub tests_more : (start now next : Circuit) (t : Lit) (bits : List Lit) (i : ℕ) (d : Lit) → Tests start now t bits i → i < length bits
     → next.variables ≡ now.variables → next.clauses ≡ now.clauses ++ (negated (get_or bits i d) ∷ t ∷ []) ∷ [] → Tests start next t bits (i + 1)
 tests_more start now next t bits i d h lt e f = record {
@@ -155,13 +174,16 @@ tests_more start now next t bits i d h lt e f = record {
       ∙ ap (λ (xs : List Lit). start.clauses ++ rows t xs) (sym (take_more bits i d lt));
 }
 
+-- after all bits the long clause ends the test
 pub tests_all : (start now next : Circuit) (t : Lit) (bits : List Lit) (i : ℕ) → Tests start now t bits i → length bits ≤ i → t.0 ≡ 2 * start.variables → AreLits start bits
-    → next.variables ≡ now.variables → next.clauses ≡ now.clauses ++ (negated t ∷ bits) ∷ []
+    → next.variables ≡ now.variables → next.clauses ≡ now.clauses ++ (negated t ∷ bits) ∷ [] → next.spent ≡ start.spent
     → Makes start next 1 (length bits + 1) (λ a. value a t ≡ not (eqb (word a bits) 0))
-tests_all start now next t bits i h le at all e f =
+tests_all start now next t bits i h le at all e f working =
     truth_test_makes start next t bits at (e ∙ h.variables) all
     (f ∙ ap (λ (cs : List (List Lit)). cs ++ (negated t ∷ bits) ∷ []) (h.clauses ∙ ap (λ (xs : List Lit). start.clauses ++ rows t xs) (take_all i bits le)))
+    working
 
+-- the long clause is over the variables
 pub long_clause : (n : ℕ) (t : Lit) (bits : List Lit) → variable_of t < n → All (λ lit. variable_of lit < n) bits → All (λ lit. variable_of lit < n) (negated t ∷ bits)
 long_clause n t bits h all zero d lt = omega (arith, variable_of-negated t)
 long_clause n t bits h all (suc k) d lt = all k d (omega arith)

@@ -1,5 +1,5 @@
 //! The word operators of the checked language as circuits.
-ghost use Rattle.std.specs.Prelude.{◌≡◌, ℕ, ◌+◌, ◌*◌, ◌<◌, ◌≤◌, true, ◌^◌, ◌%◌, ◌&&◌, ◌||◌, IfOk, OnOk, OnErr, IsErr, length, if◌then◌else◌, not, ◌==◌, int_lt};
+ghost use Rattle.std.specs.Prelude.{◌≡◌, ℕ, ◌+◌, ◌*◌, ◌<◌, ◌≤◌, true, ◌^◌, ◌%◌, ◌&&◌, ◌||◌, IfOk, OnOk, OnErr, IsErr, length, if◌then◌else◌, not, ◌==◌, int_lt, false};
 ghost use Rattle.lz_cnf.specs.Models.{negated};
 ghost use Rattle.lz_base.specs.Words.{truth, is_true, signed, unary_value, binary_value, converted};
 ghost use Rattle.lz_gates.specs.Circuits.{Assignment, Satisfies, value, IsLit, AreLits, Makes};
@@ -298,6 +298,7 @@ pub fn unary_bits(
     requires room { builder.old.variables + unary_variables op < 2147483648 }
     ensures bits { IfOk result (AreBits builder.new (width t)) }
     ensures made { IfOk result (λ r. Makes builder.old builder.new (unary_variables op) (unary_clauses op) (λ m. word m r ≡ unary_value op (word m a.now) t)) }
+    ensures working { OnOk result (builder.new.spent ≡ false) }
     ensures err { OnErr result (builder.new.spent ≡ true) }
     ensures stays_spent { builder.old.spent ≡ true → IsErr result }
 {
@@ -322,6 +323,7 @@ pub fn binary_bits(
     requires room { builder.old.variables + binary_variables op < 2147483648 }
     ensures bits { IfOk result (AreBits builder.new (width t)) }
     ensures made { IfOk result (λ r. Makes builder.old builder.new (binary_variables op) (binary_clauses op) (λ m. word m r ≡ binary_value op (word m a.now) (word m b.now) t)) }
+    ensures working { OnOk result (builder.new.spent ≡ false) }
     ensures err { OnErr result (builder.new.spent ≡ true) }
     ensures stays_spent { builder.old.spent ≡ true → IsErr result }
 {
@@ -343,6 +345,7 @@ pub fn convert_bits(
     requires bits { AreBits builder.old (width from) a.now }
     ensures bits { IfOk result (AreBits builder.new (width to)) }
     ensures made { IfOk result (λ r. Makes builder.old builder.new 0 0 (λ m. word m r ≡ converted (word m a.now) from to)) }
+    ensures working { OnOk result (builder.new.spent ≡ false) }
     ensures err { OnErr result (builder.new.spent ≡ true) }
     ensures stays_spent { builder.old.spent ≡ true → IsErr result }
 {
@@ -369,6 +372,7 @@ pub fn choose_bits(
     ensures bits { IfOk result (AreBits builder.new (length yes.now)) }
     ensures made { IfOk result (λ r. Makes builder.old builder.new (choice_variables (length yes.now)) (choice_clauses (length yes.now))
         (λ m. word m r ≡ (if value m test then word m yes.now else word m no.now))) }
+    ensures working { OnOk result (builder.new.spent ≡ false) }
     ensures err { OnErr result (builder.new.spent ≡ true) }
     ensures stays_spent { builder.old.spent ≡ true → IsErr result }
 {
@@ -385,6 +389,7 @@ pub fn truth_bit(alloc: Global, builder: &mut Builder, a: &Bits) -> Result<Lit, 
     requires room { builder.old.variables + test_variables < 2147483648 }
     ensures lit { IfOk result (IsLit builder.new) }
     ensures made { IfOk result (λ lit. Makes builder.old builder.new test_variables (test_clauses (length a.now)) (λ m. value m lit ≡ is_true (word m a.now))) }
+    ensures working { OnOk result (builder.new.spent ≡ false) }
     ensures err { OnErr result (builder.new.spent ≡ true) }
     ensures stays_spent { builder.old.spent ≡ true → IsErr result }
 {

@@ -13,6 +13,7 @@ use Rattle.lz_ssa.specs.NodeValues.{IsNodeOf, AreNodesFrom}
 use Rattle.lz_ssa.specs.NodeWeight.{node_number, nodes_weight}
 use Rattle.lz_blast.specs.Counts.{node_variables, node_clauses, nodes_variables, nodes_clauses}
 
+-- one more node has its variables behind the others'
 pub variables_push : (list : List Node) (node : Node) → nodes_variables (list ++ node ∷ []) ≡ nodes_variables list + node_variables node
 variables_push [] node = by (node_variables node)
   where
@@ -23,6 +24,7 @@ variables_push (first ∷ rest) node = ap (λ (m : ℕ). node_variables first + 
     by : (x y z : ℕ) → x + (y + z) ≡ x + y + z
     by x y z = omega arith
 
+-- and its clauses
 pub clauses_push : (list : List Node) (node : Node) → nodes_clauses (list ++ node ∷ []) ≡ nodes_clauses list + node_clauses node
 clauses_push [] node = by (node_clauses node)
   where
@@ -40,6 +42,7 @@ unary_weighs Minus = (omega arith, omega arith)
 unary_weighs Invert = (omega arith, omega arith)
 unary_weighs Not = (omega arith, omega arith)
 
+-- the circuit of a binary operator has as many variables as its number at most, and 100 times as many clauses
 binary_weighs : (op : Binary) → (binary_variables op ≤ binary_number op) × (binary_clauses op ≤ 100 * binary_number op)
 binary_weighs Mul = (omega arith, omega arith)
 binary_weighs Div = (omega arith, omega arith)
@@ -60,6 +63,7 @@ binary_weighs BitOr = (omega arith, omega arith)
 binary_weighs Both = (omega arith, omega arith)
 binary_weighs Either = (omega arith, omega arith)
 
+-- so that of a node
 node_weighs : (node : Node) → (node_variables node ≤ node_number node) × (node_clauses node ≤ 100 * node_number node)
 node_weighs (nodes.Constant value) = (omega arith, omega arith)
 node_weighs (nodes.Input number kind) = (omega arith, omega arith)
@@ -68,6 +72,7 @@ node_weighs (nodes.Binary op kind left right) = binary_weighs op
 node_weighs (nodes.Convert from to of) = (omega arith, omega arith)
 node_weighs (nodes.Choose test chosen other) = (omega arith, omega arith)
 
+-- so those of all nodes
 pub nodes_weigh : (list : List Node) → (nodes_variables list ≤ nodes_weight list) × (nodes_clauses list ≤ 100 * nodes_weight list)
 nodes_weigh [] = (omega arith, omega arith)
 nodes_weigh (first ∷ rest) =
@@ -85,6 +90,7 @@ first_weighs inputs (nodes.Binary op kind left right) h = absurd (let z = h.0 in
 first_weighs inputs (nodes.Convert from to of) h = absurd (omega arith)
 first_weighs inputs (nodes.Choose test chosen other) h = absurd (let z = h.0 in omega arith)
 
+-- two variables and 35 clauses are left over for the truth literal and the last test
 pub all_weigh : (inputs : ℕ) (list : List Node) → AreNodesFrom inputs 0 list → 0 < length list → (nodes_variables list + 2 ≤ nodes_weight list) × (nodes_clauses list + 35 ≤ 100 * nodes_weight list)
 unfolding AreNodesFrom
 all_weigh inputs [] h lt = absurd (omega arith)
@@ -102,6 +108,7 @@ nodes_at inputs before (first ∷ rest) zero d h lt = subst (λ (n : ℕ). IsNod
 nodes_at inputs before (first ∷ rest) (suc i) d h lt =
     subst (λ (n : ℕ). IsNodeOf inputs n (get_or rest i d)) (let e : suc before + i ≡ before + suc i = omega arith in e) (nodes_at inputs (suc before) rest i d h.1 (omega arith))
 
+-- the first nodes have no more variables than all
 front_at_most : (list : List Node) (n : ℕ) → nodes_variables (take n list) ≤ nodes_variables list
 front_at_most list zero = omega arith
 front_at_most [] (suc n) = omega arith

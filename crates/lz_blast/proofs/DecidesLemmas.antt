@@ -33,20 +33,24 @@ listed_agrees : (n : ℕ) (a : Assignment) → Agree n a (assigned (listed n a))
 unfolding Agree
 listed_agrees n a x lt = sym (read_value (listed n a) x (a x) (listed_at n a x lt))
 
+-- one of two is true where the second is false and some is true
 or_none : (x : Bool) → (x || false) ≡ true → x ≡ true
 or_none true h = refl
 or_none false h = h
 
+-- one of two is true where the first is
 or_some : (x : Bool) → x ≡ true → (x || false) ≡ true
 or_some true h = refl
 or_some false h = h
 
+-- a true word is not 0
 not_zero : (n : ℕ) → is_true n ≡ true → n ≢ 0
 not_zero n e = λ z. off (sym (ap is_true z) ∙ e)
   where
     off : false ≡ true → ⊥
     off h = absurd cc
 
+-- a word that is not 0 is true
 surely_true : (n : ℕ) → n ≢ 0 → is_true n ≡ true
 surely_true n nz = by (eqb n 0) refl
   where
@@ -96,11 +100,13 @@ parts a formula tested test e s =
     let u = subst (λ (cs : List (List Lit)). Satisfies a cs) e s in
     (satisfies_front a tested.clauses ((test ∷ []) ∷ []) u, or_none (value a test) (satisfies_back a tested.clauses ((test ∷ []) ∷ []) u).0)
 
+-- who satisfies the circuit, with a true test, satisfies the formula
 whole : (a : Assignment) (formula : Cnf) (tested : Circuit) (test : Lit) → formula.clauses ≡ tested.clauses ++ (test ∷ []) ∷ [] → Satisfies a tested.clauses → value a test ≡ true → Satisfies a formula.clauses
 unfolding Satisfies clause_value
 whole a formula tested test e s t =
     subst (λ (cs : List (List Lit)). Satisfies a cs) (sym e) (satisfies_append a tested.clauses ((test ∷ []) ∷ []) s (or_some (value a test) t, tt))
 
+-- an input that is told is a word
 told_range : (before : Circuit) (inputs : List (List Lit)) (values : List Bool) (i : ℕ) → AreInputs before inputs → told_input values inputs i < value_bound
 unfolding AreInputs word
 told_range before inputs values i all = by (input_at inputs i) refl

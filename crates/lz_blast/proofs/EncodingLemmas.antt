@@ -68,20 +68,25 @@ encodes_node old new inputs nodes values w f circuit h extends says = record {
 
 -- ---- an input
 
+-- the assignment with another value at n
 abbrev put : Assignment → ℕ → Bool → Assignment
 put a n v x = cond (eqb x n) v (a x)
 
+-- it has that value there
 put_same : (a : Assignment) (n : ℕ) (v : Bool) → put a n v n ≡ v
 put_same a n v = grind (arith, nat_tests)
 
+-- and agrees below
 put_below : (a : Assignment) (n : ℕ) (v : Bool) → Agree n a (put a n v)
 unfolding Agree
 put_below a n v x lt = grind (arith, nat_tests)
 
+-- two that agree below n + 1 agree at n
 agree_at : (n : ℕ) (a b : Assignment) → Agree (n + 1) a b → a n ≡ b n
 unfolding Agree
 agree_at n a b h = h n (omega arith)
 
+-- a number is its low bit and twice its half
 pub odd_bit : (n : ℕ) → bit (eqb (n % 2) 1) + 2 * (n / 2) ≡ n
 odd_bit n = by (eqb (n % 2) 1) refl
   where
@@ -103,12 +108,14 @@ fresh_any n (suc k) number a lt =
       (let e = ap bit here in let m = more.2 in let o = odd_bit number in omega arith),
     )
 
+-- two numbers are equal where their low bits and their halves are
 bit_same : (x y : Bool) (p q : ℕ) → bit x + 2 * p ≡ bit y + 2 * q → (x ≡ y) × (p ≡ q)
 bit_same true true p q e = (refl, omega arith)
 bit_same true false p q e = absurd (omega arith)
 bit_same false true p q e = absurd (omega arith)
 bit_same false false p q e = (refl, omega arith)
 
+-- two that agree below n and at n agree below n + 1
 agree_next : (n : ℕ) (a b : Assignment) → Agree n a b → a n ≡ b n → Agree (n + 1) a b
 unfolding Agree
 agree_next n a b h e x lt = grind arith
@@ -122,11 +129,13 @@ fresh_once n (suc k) a b same e =
     let here : a n ≡ b n = sym (value-positive a (record { 0 = 2 * n }) n refl) ∙ t.0 ∙ value-positive b (record { 0 = 2 * n }) n refl in
     subst (λ (m : ℕ). Agree m a b) (let z : n + 1 + k ≡ n + suc k = omega arith in z) (fresh_once (n + 1) k a b (agree_next n a b same here) t.1)
 
+-- fresh literals are literals of the circuit
 fresh_in : (circuit : Circuit) (n k : ℕ) → n + k ≤ circuit.variables → AreLits circuit (fresh_word n k)
 fresh_in circuit n zero le j d lt = absurd (omega arith)
 fresh_in circuit n (suc k) le zero d lt = omega arith
 fresh_in circuit n (suc k) le (suc j) d lt = fresh_in circuit (n + 1) k (omega arith) j d (omega arith)
 
+-- a word of so many fresh literals has so many
 length-fresh_word : (n k : ℕ) → length (fresh_word n k) ≡ k
 length-fresh_word n zero = refl
 length-fresh_word n (suc k) = ap suc (length-fresh_word (n + 1) k)
@@ -142,6 +151,7 @@ fresh_bits_in old new w more e = record {
 pub input_set_same : (inputs : List (List Lit)) (number : ℕ) (w : List Lit) → number < length inputs → input_at (set inputs number w) number ≡ w
 input_set_same inputs number w lt = get_or-set_same inputs number w [] lt
 
+-- an input that is set leaves the others as they were
 pub input_set_other : (inputs : List (List Lit)) (number i : ℕ) (w : List Lit) → (i ≡ number → ⊥) → input_at (set inputs number w) i ≡ input_at inputs i
 input_set_other inputs number i w ne = get_or-set_other inputs number i w [] ne
 
@@ -165,12 +175,14 @@ reads_before a inputs number w v lt none h i some = by (eqb i number) refl
         let is = input_set_other inputs number i w other in
         ap (word a) (sym is) ∙ h i (subst (λ (xs : List Lit). 0 < length xs) (sym is) some)
 
+-- an assignment that reads the inputs reads the one that was set
 reads_now : (a : Assignment) (inputs : List (List Lit)) (number : ℕ) (w : List Lit) (v : ℕ → ℕ) → number < length inputs → 0 < length w → Reads a (set inputs number w) v → word a w ≡ v number
 unfolding Reads
 reads_now a inputs number w v lt some h =
     let is = input_set_same inputs number w lt in
     ap (word a) (sym is) ∙ h number (subst (λ (xs : List Lit). 0 < length xs) (sym is) some)
 
+-- one that reads the others and the new one reads all
 reads_set : (a : Assignment) (inputs : List (List Lit)) (number : ℕ) (w : List Lit) (v : ℕ → ℕ) → number < length inputs → word a w ≡ v number → Reads a inputs v → Reads a (set inputs number w) v
 unfolding Reads
 reads_set a inputs number w v lt here h =
@@ -206,10 +218,12 @@ encodes_input old new inputs nodes values number w circuit h lt none more same i
 
 -- ---- the start
 
+-- one of two is true where the first is
 or_some : (x : Bool) → x ≡ true → (x || false) ≡ true
 or_some true h = refl
 or_some false h = h
 
+-- one of two is true where the second is false and some is true
 or_none : (x : Bool) → (x || false) ≡ true → x ≡ true
 or_none true h = refl
 or_none false h = h

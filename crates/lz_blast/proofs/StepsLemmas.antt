@@ -20,11 +20,13 @@ use Rattle.lz_blast.specs.Steps.{Adds, Stands, Steps}
 use Rattle.lz_blast.proofs.CountsLemmas.{variables_push, clauses_push}
 use Rattle.lz_blast.proofs.EncodingLemmas.{encodes_node, encodes_input, encodes_new, fresh_bits_in, input_set_same, input_set_other}
 
+-- the words of nodes and one more are theirs and its
 values_from_push : (v : ℕ → ℕ) (done : List ℕ) (list : List Node) (node : Node) → values_from v done (list ++ node ∷ []) ≡ values_from v done list ++ node_value node v (values_from v done list) ∷ []
 unfolding values_from
 values_from_push v done [] node = refl
 values_from_push v done (first ∷ rest) node = values_from_push v (done ++ node_value first v done ∷ []) rest node
 
+-- an input that is read by nodes and one more is read by these or by that
 reads_push : (list : List Node) (node : Node) (i : ℕ) → ReadsInput (list ++ node ∷ []) i → ReadsInput list i ⊎ IsInput node i
 unfolding ReadsInput
 reads_push [] node i (inl h) = inr h
@@ -32,12 +34,14 @@ reads_push [] node i (inr h) = absurd h
 reads_push (first ∷ rest) node i (inl h) = inl (inl h)
 reads_push (first ∷ rest) node i (inr h) = elim (reads_push rest node i h) [ inl r ↦ inl (inr r) | inr r ↦ inr r ]
 
+-- what the nodes read is still read
 reads_front : (list : List Node) (node : Node) (i : ℕ) → ReadsInput list i → ReadsInput (list ++ node ∷ []) i
 unfolding ReadsInput
 reads_front [] node i h = absurd h
 reads_front (first ∷ rest) node i (inl h) = inl h
 reads_front (first ∷ rest) node i (inr h) = inr (reads_front rest node i h)
 
+-- so is what the last one reads
 reads_last : (list : List Node) (node : Node) (i : ℕ) → IsInput node i → ReadsInput (list ++ node ∷ []) i
 unfolding ReadsInput
 reads_last [] node i h = inl h
@@ -48,6 +52,7 @@ words_more : (old new : Circuit) (before : List (List Lit)) (w : List Lit) → o
 words_more old new before w le all one =
     All-push (AreBits new 32) before w (λ k d lt. record { length = (all k d lt).length; lits = are_lits_more old new (get_or before k d) le (all k d lt).lits }) one
 
+-- what stands for some words stands for the same words, said otherwise
 encodes_as : (circuit : Circuit) (inputs words_ : List (List Lit)) (f g : (ℕ → ℕ) → List ℕ) → ((v : ℕ → ℕ) → f v ≡ g v) → Encodes circuit inputs words_ f → Encodes circuit inputs words_ g
 encodes_as circuit inputs words_ f g e h = record {
   inputs_in = h.inputs_in;
@@ -94,6 +99,7 @@ steps_again circuit inputs before after number kind w some is e = record {
       (λ v a t r. ap (word a) is ∙ r number some) (λ i same. subst (λ (j : ℕ). 0 < length (input_at inputs j)) same some);
 }
 
+-- a circuit stays one with more variables
 circuit_larger : (old new : Circuit) → old.variables ≤ new.variables → new.clauses ≡ old.clauses → IsCircuit old → IsCircuit new
 circuit_larger old new le e h = record {
   some = let p = h.some in omega arith;

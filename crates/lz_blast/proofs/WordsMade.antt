@@ -16,6 +16,7 @@ pub record Knows (circuit : Circuit) (number : ℕ) (bits : List Lit) (rest i : 
   pub says : (a : Assignment) → Satisfies a circuit.clauses → word a bits + 2 ^ i * rest ≡ number
   pub small : rest ≤ number
 
+-- before the first bit the whole number is left
 pub knows_none : (circuit : Circuit) (number : ℕ) → Knows circuit number [] number 0
 unfolding word
 knows_none circuit number = record {
@@ -24,9 +25,11 @@ knows_none circuit number = record {
   small = omega arith;
 }
 
+-- a bit moves from the rest to the word
 known_step : (w p b r half : ℕ) → b + 2 * half ≡ r → w + p * b + p * 2 * half ≡ w + p * r
 known_step w p b r half e = let f : p * (b + 2 * half) ≡ p * r = ap (λ (m : ℕ). p * m) e in grind arith
 
+-- one more bit is known
 pub knows_more : (circuit : Circuit) (number : ℕ) (bits : List Lit) (rest i : ℕ) (lit : Lit) → Knows circuit number bits rest i → IsLit circuit lit
     → ((a : Assignment) → Satisfies a circuit.clauses → value a lit ≡ eqb (rest % 2) 1) → Knows circuit number (bits ++ lit ∷ []) (rest / 2) (i + 1)
 knows_more circuit number bits rest i lit h lit_in says = record {
@@ -41,9 +44,11 @@ knows_more circuit number bits rest i lit h lit_in says = record {
   small = let p = h.small in omega arith;
 }
 
+-- a number below 2^32 leaves nothing after 32 bits
 none_left : (w r n : ℕ) → w + 4294967296 * r ≡ n → n < 4294967296 → w ≡ n
 none_left w r n e lt = omega arith
 
+-- after 32 bits the word is the number
 pub knows_all : (circuit : Circuit) (number : ℕ) (bits : List Lit) (rest i : ℕ) → Knows circuit number bits rest i → i ≡ 32 → number < 2 ^ 32 → Makes circuit circuit 0 0 (λ a. word a bits ≡ number)
 knows_all circuit number bits rest i h e lt = makes_same circuit (λ a. word a bits ≡ number) (λ a s. none_left (word a bits) rest number (ap (λ (k : ℕ). word a bits + 2 ^ k * rest) (sym e) ∙ h.says a s) lt)
 
@@ -53,15 +58,18 @@ pub record Freshens (start now : Circuit) (bits : List Lit) (i : ℕ) : Type 0 w
   pub variables : now.variables ≡ start.variables + i
   pub clauses : now.clauses ≡ start.clauses
 
+-- one more fresh literal
 fresh_push : (n k : ℕ) → fresh_word n k ++ record { 0 = 2 * (n + k) } ∷ [] ≡ fresh_word n (suc k)
 fresh_push n zero = ap (λ (m : ℕ). record { 0 = 2 * m } ∷ []) (let e : n + 0 ≡ n = omega arith in e)
 fresh_push n (suc k) =
     ap (λ (m : ℕ). record { 0 = 2 * n } ∷ (fresh_word (n + 1) k ++ record { 0 = 2 * m } ∷ [])) (let e : n + suc k ≡ n + 1 + k = omega arith in e)
     ∙ ap (λ (xs : List Lit). record { 0 = 2 * n } ∷ xs) (fresh_push (n + 1) k)
 
+-- no fresh literal so far
 pub freshens_none : (start : Circuit) → Freshens start start [] 0
 freshens_none start = record { bits_are = refl; variables = omega arith; clauses = refl }
 
+-- one more
 pub freshens_more : (start now next : Circuit) (bits : List Lit) (lit : Lit) (i : ℕ) → Freshens start now bits i → lit.0 ≡ 2 * now.variables → next.variables ≡ now.variables + 1 → next.clauses ≡ now.clauses
     → Freshens start next (bits ++ lit ∷ []) (i + 1)
 freshens_more start now next bits lit i h e more same = record {
@@ -77,6 +85,7 @@ pub replicate_push : (n : ℕ) → replicate n (let none : List Lit = [] in none
 replicate_push zero = refl
 replicate_push (suc n) = ap (λ (xs : List (List Lit)). [] ∷ xs) (replicate_push n) ∙ ap (λ (k : ℕ). replicate k (let none : List Lit = [] in none)) (let e : suc (n + 1) ≡ suc n + 1 = omega arith in e)
 
+-- an input that no node has read has no literals
 pub unread_at : (n i : ℕ) (inputs : List (List Lit)) → inputs ≡ replicate n [] → length (input_at inputs i) ≡ 0
 unread_at n i inputs e = ap (λ (xs : List (List Lit)). length (input_at xs i)) e ∙ by n i
   where

@@ -8,12 +8,14 @@ use Rattle.lz_flat.specs.WellFormed.{BeginsVisible}
 
 -- ---- what is left of a list
 
+-- behind the first of what is left at a place is what is left at the next
 pub drop-next : {A : Type 0} (xs : List A) (l : ℕ) (y : A) (ys : List A) → drop l xs ≡ y ∷ ys → drop (suc l) xs ≡ ys
 drop-next [] zero y ys e = absurd cc
 drop-next [] (suc l) y ys e = absurd cc
 drop-next (x ∷ xs) zero y ys e = cc
 drop-next (x ∷ xs) (suc l) y ys e = drop-next xs l y ys e
 
+-- where nothing is left at a place, nothing is left further on
 pub drop-none : {A : Type 0} (xs : List A) (l over : ℕ) → drop l xs ≡ [] → drop (l + over) xs ≡ []
 drop-none xs l over e =
     let none : length (drop l xs) ≡ 0 = ap length e in
@@ -25,36 +27,43 @@ pub record Lands (code : List MarkedInstruction) (l place : ℕ) : Type 0 where
   pub forward : l ≤ place
   pub stands : BeginsVisible (drop place code)
 
+-- where instructions lead to a place, it is not before this one, and visible or the end
 abbrev pub LandsWell : List MarkedInstruction → ℕ → Ran → Type 0
 LandsWell code l (went place memory) = Lands code l place
 LandsWell code l held = Unit
 LandsWell code l (breaks kind line) = Unit
 LandsWell code l ended = Unit
 
+-- what lands well from the next place on lands well from this one
 lands_later : (code : List MarkedInstruction) (l : ℕ) (r : Ran) → LandsWell code (suc l) r → LandsWell code l r
 lands_later code l (went place memory) h = record { forward = let f = h.forward in omega arith; stands = h.stands }
 lands_later code l held h = h
 lands_later code l (breaks kind line) h = h
 lands_later code l ended h = h
 
+-- behind an instruction it lands well where each way on does
 behind_lands : (code : List MarkedInstruction) (l : ℕ) (d : Did) (f : ℕ → List ℕ → Ran) → ((over : ℕ) (m : List ℕ) → LandsWell code (suc l) (f over m)) → LandsWell code l (behind d f)
 behind_lands code l (moved over memory) f h = lands_later code l (f over memory) (h over memory)
 behind_lands code l blocked f h = tt
 behind_lands code l (broke kind line) f h = tt
 
+-- so from the next place on
 pub behind_lands_here : (code : List MarkedInstruction) (l : ℕ) (d : Did) (f : ℕ → List ℕ → Ran) → ((over : ℕ) (m : List ℕ) → LandsWell code (suc l) (f over m)) → LandsWell code (suc l) (behind d f)
 behind_lands_here code l (moved over memory) f h = h over memory
 behind_lands_here code l blocked f h = tt
 behind_lands_here code l (broke kind line) f h = tt
 
+-- code whose first instruction is visible begins visible
 pub begins : (first : MarkedInstruction) (rest code : List MarkedInstruction) → code ≡ first ∷ rest → first.visible ≡ true → BeginsVisible code
 begins first rest [] e v = tt
 begins first rest (x ∷ xs) e v = let same : x ≡ first = cc in rw same v
 
+-- so does code that has ended
 pub begins_none : (code : List MarkedInstruction) → code ≡ [] → BeginsVisible code
 begins_none [] e = tt
 begins_none (x ∷ xs) e = absurd cc
 
+-- the walk stops at a visible instruction, and goes on behind another
 lands_at : (input : ℕ → ℕ) (code : List MarkedInstruction) (l : ℕ) (first : MarkedInstruction) (rest : List MarkedInstruction) (memory : List ℕ) (b : Bool)
     → first.visible ≡ b → drop l code ≡ first ∷ rest
     → ((over : ℕ) (m : List ℕ) → LandsWell code (suc l) (onward input (suc l) rest over m))
@@ -62,6 +71,7 @@ lands_at : (input : ℕ → ℕ) (code : List MarkedInstruction) (l : ℕ) (firs
 lands_at input code l first rest memory true v e h = record { forward = omega arith; stands = begins first rest (drop l code) e v }
 lands_at input code l first rest memory false v e h = behind_lands code l (did first.instr (input l) memory) (onward input (suc l) rest) h
 
+-- the walk from a place leads to a visible instruction or the end, not before that place
 pub onward_lands : (input : ℕ → ℕ) (code part : List MarkedInstruction) (l over : ℕ) (memory : List ℕ) → drop l code ≡ part → LandsWell code l (onward input l part over memory)
 unfolding onward
 onward_lands input code [] l over memory e = record { forward = omega arith; stands = begins_none (drop (l + over) code) (drop-none code l over e) }
@@ -72,15 +82,18 @@ onward_lands input code (first ∷ rest) l zero memory e =
 
 -- ---- only a step from the end is none
 
+-- behind an instruction the thread has not ended where no way on says so
 pub behind_real : (d : Did) (f : ℕ → List ℕ → Ran) → ((over : ℕ) (m : List ℕ) → f over m ≡ ended → ⊥) → behind d f ≡ ended → ⊥
 behind_real (moved over memory) f h e = h over memory e
 behind_real blocked f h e = cc
 behind_real (broke kind line) f h e = cc
 
+-- so where the walk may stop here
 real_at : (b : Bool) (l : ℕ) (memory : List ℕ) (r : Ran) → (r ≡ ended → ⊥) → cond b (went l memory) r ≡ ended → ⊥
 real_at true l memory r h e = cc
 real_at false l memory r h e = h e
 
+-- the walk never says that the thread has ended
 pub onward_real : (input : ℕ → ℕ) (part : List MarkedInstruction) (l over : ℕ) (memory : List ℕ) → onward input l part over memory ≡ ended → ⊥
 unfolding onward
 onward_real input [] l over memory e = cc

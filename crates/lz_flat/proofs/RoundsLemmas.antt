@@ -13,9 +13,11 @@ pub data Fits : List ℕ → List ℕ → Type 0 where
   stay : {thread : ℕ} {run bs : List ℕ} → Fits run (thread ∷ bs) → Fits (thread ∷ run) (thread ∷ bs)
   next : {thread : ℕ} {run bs : List ℕ} → Fits run bs → Fits run (thread ∷ bs)
 
+-- 1 where the second of two neighbours is smaller, and 0 else
 abbrev pub down : ℕ → ℕ → ℕ
 down first second = if nat_lt second first then 1 else 0
 
+-- it is 1 where the second is smaller
 down_lt : (a b : ℕ) → b < a → down a b ≡ 1
 down_lt a b h = decide (nat_lt b a) refl
   where
@@ -23,6 +25,7 @@ down_lt a b h = decide (nat_lt b a) refl
     decide true e = refl
     decide false e = absurd (let n : b < a → ⊥ = grind arith in n h)
 
+-- it is 0 where the second is not
 down_ge : (a b : ℕ) → a ≤ b → down a b ≡ 0
 down_ge a b h = decide (nat_lt b a) refl
   where
@@ -35,6 +38,7 @@ data Compared (a b : ℕ) : Type 0 where
   lower : b < a → down a b ≡ 1 → Compared a b
   higher : a ≤ b → down a b ≡ 0 → Compared a b
 
+-- two numbers, compared
 compared : (a b : ℕ) → Compared a b
 compared a b = decide (nat_lt b a) refl
   where
@@ -44,6 +48,7 @@ compared a b = decide (nat_lt b a) refl
 
 -- ---- a run of few rounds fits
 
+-- each step is of one of so many threads
 abbrev Small : ℕ → List ℕ → Type 0
 Small threads run = AllByRecursion (λ thread. thread < threads) run
 
@@ -100,6 +105,7 @@ fits_rounds rounds threads (u ∷ run) small few =
 
 -- ---- what fits has few rounds
 
+-- a number put between two neighbours takes no descent away
 triangle : (x t b : ℕ) → down x b ≤ down x t + down t b
 triangle x t b = cases (compared x b) (compared x t) (compared t b)
   where
@@ -109,10 +115,12 @@ triangle x t b = cases (compared x b) (compared x t) (compared t b)
     cases (lower h k) (higher h' k') (lower h'' k'') = omega (arith, k, k', k'')
     cases (lower h k) (higher h' k') (higher h'' k'') = omega arith
 
+-- leaving out the second of a list adds no descent
 drop_block : (x t : ℕ) (bs : List ℕ) → descents (x ∷ bs) ≤ descents (x ∷ t ∷ bs)
 drop_block x t [] = omega arith
 drop_block x t (b ∷ bs) = let q = triangle x t b in omega (arith, q)
 
+-- no number is smaller than itself
 self : (t : ℕ) → down t t ≡ 0
 self t = down_ge t t (let z : t ≤ t = omega arith in z)
 
@@ -128,6 +136,7 @@ fewer_descents x (next {thread = t} {run = run} {bs = bs} fits) =
     let more = drop_block x t bs in
     omega (arith, later, more)
 
+-- a round before blocks adds no descent to those that the blocks have behind any thread
 round_descents : (most : ℕ) (bs : List ℕ) → ((y : ℕ) → descents (y ∷ bs) ≤ most) → (more x t : ℕ) → x ≤ t → descents (x ∷ threads_from t more ++ bs) ≤ most
 round_descents most bs h zero x t le = h x
 round_descents most bs h (suc more) x t le =
@@ -135,6 +144,7 @@ round_descents most bs h (suc more) x t le =
     let later : descents (t ∷ threads_from (suc t) more ++ bs) ≤ most = round_descents most bs h more t (suc t) (omega arith) in
     omega (arith, d, later)
 
+-- another number in front adds one descent at most
 one_more : (y : ℕ) (bs : List ℕ) → descents (y ∷ bs) ≤ suc (descents (0 ∷ bs))
 one_more y [] = omega arith
 one_more y (b ∷ bs) = cases (compared y b)
@@ -143,6 +153,7 @@ one_more y (b ∷ bs) = cases (compared y b)
     cases (lower h k) = omega (arith, k)
     cases (higher h k) = omega (arith, k)
 
+-- so many rounds have so many descents at most, whatever stands before them
 blocks_descents : (rounds threads y : ℕ) → descents (y ∷ blocks rounds threads) ≤ rounds
 blocks_descents zero threads y = omega arith
 blocks_descents (suc rounds) threads y =
@@ -150,10 +161,12 @@ blocks_descents (suc rounds) threads y =
     let more = one_more y (blocks (suc rounds) threads) in
     omega (arith, first, more)
 
+-- leaving out the first adds no descent
 pub without_first : (x : ℕ) (run : List ℕ) → descents run ≤ descents (x ∷ run)
 without_first x [] = omega arith
 without_first x (u ∷ run) = omega arith
 
+-- a run that fits so many rounds has at most so many
 pub few_rounds : (rounds threads : ℕ) (run : List ℕ) → Fits run (blocks (suc rounds) threads) → descents run + 1 ≤ suc rounds
 few_rounds rounds threads run fits =
     let first = round_descents rounds (blocks rounds threads) (blocks_descents rounds threads) threads 0 0 (omega arith) in

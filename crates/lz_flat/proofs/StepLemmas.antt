@@ -21,6 +21,7 @@ onward_skip input [] l (suc over) memory = ap (λ (n : ℕ). went n memory) (let
 onward_skip input (first ∷ rest) l (suc over) memory =
     onward_skip input rest (suc l) over memory ∙ ap (λ (n : ℕ). onward input n (drop over rest) 0 memory) (let z : suc l + over ≡ l + suc over = omega arith in z)
 
+-- passing over instructions is beginning behind them, for the count too
 pub count_skip : (input : ℕ → ℕ) (part : List MarkedInstruction) (l over : ℕ) (memory : List ℕ) → onward_count input l part over memory ≡ onward_count input (l + over) (drop over part) 0 memory
 unfolding onward_count
 count_skip input part l zero memory = ap (λ (n : ℕ). onward_count input n part 0 memory) (let z : l ≡ l + 0 = omega arith in z)
@@ -28,10 +29,12 @@ count_skip input [] l (suc over) memory = refl
 count_skip input (first ∷ rest) l (suc over) memory =
     count_skip input rest (suc l) over memory ∙ ap (λ (n : ℕ). onward_count input n (drop over rest) 0 memory) (let z : suc l + over ≡ l + suc over = omega arith in z)
 
+-- nothing is left of an empty list
 drop_none : {A : Type 0} (n : ℕ) → drop {A = A} n [] ≡ []
 drop_none zero = refl
 drop_none (suc n) = refl
 
+-- leaving out some and then some more is leaving out both
 drop_twice : {A : Type 0} (a b : ℕ) (xs : List A) → drop b (drop a xs) ≡ drop (a + b) xs
 drop_twice zero b xs = ap (λ (n : ℕ). drop n xs) (let z : b ≡ 0 + b = omega arith in z)
 drop_twice (suc a) b [] = drop_none b ∙ sym (drop_none (suc a + b))
@@ -45,6 +48,7 @@ pub record IsInstructionAt (n left : ℕ) (i : Instruction) (visible : Bool) : T
   pub mark : IsMarkedSo i visible
   pub forward : IsForward left i
 
+-- the instruction at a place is one of the code: it names words within, and goes forward alone
 pub instruction_at : (n : ℕ) (code : List Marked) (at : ℕ) (next : Marked) → IsCodeOf n (map marked code) → at < length code → next ≡ get_or code at next
     → IsInstructionAt n (length code - at) (instruction next.instr) next.visible
 instruction_at n [] at next is lt e = absurd (let z : ⊥ = omega arith in z)
@@ -109,6 +113,7 @@ pub record LeftFrom (code : List Marked) (input : ℕ → ℕ) (from : ℕ) (sta
   pub words : All IsWord memory
   pub size : length memory ≡ length start
 
+-- before the first turn of the loop all from its start is left
 pub left_at_first : (code : List Marked) (input : ℕ → ℕ) (from : ℕ) (start : List ℕ) → from ≤ length code → 1 ≤ from → All IsWord start → LeftFrom code input from start from 1 start
 left_at_first code input from start within some words = record {
   same = refl;
@@ -119,28 +124,34 @@ left_at_first code input from start within some words = record {
   size = refl;
 }
 
+-- an instruction that is not visible and moves on leads to what is behind it
 onward_moves : (input : ℕ → ℕ) (l : ℕ) (first : MarkedInstruction) (rest : List MarkedInstruction) (memory after : List ℕ) (over : ℕ) → first.visible ≡ false → did first.instr (input l) memory ≡ moved over after
     → onward input l (first ∷ rest) 0 memory ≡ onward input (suc l) rest over after
 unfolding onward
 onward_moves input l first rest memory after over v e = rw (v, e) refl
 
+-- it counts one more
 count_moves : (input : ℕ → ℕ) (l : ℕ) (first : MarkedInstruction) (rest : List MarkedInstruction) (memory after : List ℕ) (over : ℕ) → first.visible ≡ false → did first.instr (input l) memory ≡ moved over after
     → onward_count input l (first ∷ rest) 0 memory ≡ suc (onward_count input (suc l) rest over after)
 unfolding onward_count
 count_moves input l first rest memory after over v e = rw (v, e) refl
 
+-- one that breaks ends the walk
 onward_breaks : (input : ℕ → ℕ) (l : ℕ) (first : MarkedInstruction) (rest : List MarkedInstruction) (memory : List ℕ) (kind : BreakKind) (line : ℕ) → first.visible ≡ false → did first.instr (input l) memory ≡ broke kind line
     → onward input l (first ∷ rest) 0 memory ≡ breaks kind line
 unfolding onward
 onward_breaks input l first rest memory kind line v e = rw (v, e) refl
 
+-- what is left at a place is its instruction and what is left behind it
 more_at : (code : List Marked) (at : ℕ) (next : Marked) → at < length code → next ≡ get_or code at next → drop at code ≡ next ∷ drop (at + 1) code
 more_at code at next lt e = drop_more code at next lt ∙ ap (λ (x : Marked). x ∷ drop (at + 1) code) (sym e)
 
+-- what is left behind the instructions passed over, as definitions read it
 behind_drop : (code : List Marked) (at over : ℕ) → drop over (map marked (drop (at + 1) code)) ≡ map marked (drop (at + (1 + over)) code)
 behind_drop code at over =
     drop-map marked over (drop (at + 1) code) ∙ ap (map marked) (drop_twice (at + 1) over code ∙ ap (λ (n : ℕ). drop n code) (let z : at + 1 + over ≡ at + (1 + over) = omega arith in z))
 
+-- a turn of the loop keeps what is left
 pub left_moves : (code : List Marked) (input : ℕ → ℕ) (from : ℕ) (start : List ℕ) (at used : ℕ) (memory after : List ℕ) (next : Marked) (over n : ℕ) → LeftFrom code input from start at used memory
     → IsCodeOf n (map marked code) → at < length code → next ≡ get_or code at next → next.visible ≡ false
     → Performs (instruction next.instr) (input at) memory after (performed.Moved over) → All IsWord after → length after ≡ length memory
@@ -168,6 +179,7 @@ left_moves code input from start at used memory after next over n left is lt e v
       size = size ∙ left.size;
     }
 
+-- a turn that breaks breaks the walk from the start
 pub left_breaks : (code : List Marked) (input : ℕ → ℕ) (from : ℕ) (start : List ℕ) (at used : ℕ) (memory after : List ℕ) (next : Marked) (kind : BreakKind) (line : ℕ) → LeftFrom code input from start at used memory
     → at < length code → next ≡ get_or code at next → next.visible ≡ false
     → Performs (instruction next.instr) (input at) memory after (performed.Broke kind line)
@@ -178,18 +190,22 @@ left_breaks code input from start at used memory after next kind line left lt e 
     let old = subst (λ (part : List Marked). onward input at (map marked part) 0 memory ≡ onward input from (map marked (drop from code)) 0 start) more left.same in
     rw (drop-map marked from code) (sym old ∙ onward_breaks input at (marked next) rest memory kind line v performs.0)
 
+-- at the end the walk leads to the end
 onward_ends : (input : ℕ → ℕ) (l : ℕ) (memory : List ℕ) → onward input l [] 0 memory ≡ went l memory
 unfolding onward
 onward_ends input l memory = ap (λ (n : ℕ). went n memory) (let z : l + 0 ≡ l = omega arith in z)
 
+-- and counts nothing
 count_ends : (input : ℕ → ℕ) (l : ℕ) (memory : List ℕ) → onward_count input l [] 0 memory ≡ 0
 unfolding onward_count
 count_ends input l memory = refl
 
+-- at a visible instruction the walk leads there
 onward_visible : (input : ℕ → ℕ) (l : ℕ) (first : MarkedInstruction) (rest : List MarkedInstruction) (memory : List ℕ) → first.visible ≡ true → onward input l (first ∷ rest) 0 memory ≡ went l memory
 unfolding onward
 onward_visible input l first rest memory v = rw v refl
 
+-- and counts nothing
 count_visible : (input : ℕ → ℕ) (l : ℕ) (first : MarkedInstruction) (rest : List MarkedInstruction) (memory : List ℕ) → first.visible ≡ true → onward_count input l (first ∷ rest) 0 memory ≡ 0
 unfolding onward_count
 count_visible input l first rest memory v = rw v refl
@@ -199,6 +215,7 @@ pub record EndsAt (code : List Marked) (input : ℕ → ℕ) (from : ℕ) (start
   pub led : onward input from (drop from (map marked code)) 0 start ≡ went at memory
   pub count : used ≡ suc (onward_count input from (drop from (map marked code)) 0 start)
 
+-- a loop that comes to the end has the walk from the start
 pub left_ends : (code : List Marked) (input : ℕ → ℕ) (from : ℕ) (start : List ℕ) (at used : ℕ) (memory : List ℕ) → LeftFrom code input from start at used memory → length code ≤ at → EndsAt code input from start at used memory
 left_ends code input from start at used memory left h =
     let none : drop at code ≡ [] = drop_all at code h in
@@ -210,6 +227,7 @@ left_ends code input from start at used memory left h =
       count = rw (drop-map marked from code) (omega (arith, count, zero_));
     }
 
+-- so has one that comes to a visible instruction
 pub left_stops : (code : List Marked) (input : ℕ → ℕ) (from : ℕ) (start : List ℕ) (at used : ℕ) (memory : List ℕ) (next : Marked) → LeftFrom code input from start at used memory → at < length code → next ≡ get_or code at next → next.visible ≡ true
     → EndsAt code input from start at used memory
 left_stops code input from start at used memory next left lt e v =
@@ -225,22 +243,27 @@ left_stops code input from start at used memory next left lt e v =
 
 -- ---- a whole step
 
+-- what is left at a place, as definitions read it
 drop_marked : (code : List Marked) (at : ℕ) (next : Marked) → at < length code → next ≡ get_or code at next → drop at (map marked code) ≡ marked next ∷ map marked (drop (at + 1) code)
 drop_marked code at next lt e = drop-map marked at code ∙ ap (map marked) (more_at code at next lt e)
 
+-- code has as many instructions as definitions read
 pub length_marked : (code : List Marked) → length (map marked code) ≡ length code
 length_marked [] = refl
 length_marked (x ∷ xs) = ap suc (length_marked xs)
 
+-- past the end a step says that the thread has ended
 pub step_ends : (code : List Marked) (input : ℕ → ℕ) (at : ℕ) (memory : List ℕ) → length code ≤ at → step input (map marked code) at memory ≡ ended
 unfolding step
 step_ends code input at memory h = rw (drop_all at (map marked code) (let k = length_marked code in omega arith)) refl
 
+-- a step whose first instruction is blocked is held
 pub step_blocked : (code : List Marked) (input : ℕ → ℕ) (at : ℕ) (memory after : List ℕ) (next : Marked) → at < length code → next ≡ get_or code at next
     → Performs (instruction next.instr) (input at) memory after performed.Blocked → step input (map marked code) at memory ≡ held
 unfolding step
 step_blocked code input at memory after next lt e performs = rw (drop_marked code at next lt e, performs.0) refl
 
+-- a step whose first instruction breaks breaks
 pub step_breaks : (code : List Marked) (input : ℕ → ℕ) (at : ℕ) (memory after : List ℕ) (next : Marked) (kind : BreakKind) (line : ℕ) → at < length code → next ≡ get_or code at next
     → Performs (instruction next.instr) (input at) memory after (performed.Broke kind line) → step input (map marked code) at memory ≡ breaks kind line
 unfolding step
@@ -258,6 +281,7 @@ step_moves code input at memory after next over r lt e performs led =
     ∙ rw (place, behind_drop code at over, drop-map marked (at + (1 + over)) code) refl in
     rw (drop_marked code at next lt e, performs) (skipped ∙ led)
 
+-- a step whose first instruction moves on counts it and those behind it
 pub step_counts : (code : List Marked) (input : ℕ → ℕ) (at : ℕ) (memory after : List ℕ) (next : Marked) (over : ℕ) → at < length code → next ≡ get_or code at next
     → Performs (instruction next.instr) (input at) memory after (performed.Moved over)
     → suc (onward_count input (at + (1 + over)) (drop (at + (1 + over)) (map marked code)) 0 after) ≡ step_count input (map marked code) at memory
@@ -275,6 +299,7 @@ code_at [] thread code lt e = absurd (let z : ⊥ = omega arith in z)
 code_at (x ∷ xs) zero code lt e = ap (map marked) (sym e)
 code_at (x ∷ xs) (suc thread) code lt e = code_at xs thread code (omega arith) e
 
+-- the code of each thread of a well marked program is well marked
 pub codes_at : (n : ℕ) (threads : List (List Marked)) (thread : ℕ) (code : List Marked) → AllByRecursion (IsCodeOf n) (map (λ c. map marked c) threads) → thread < length threads → code ≡ get_or threads thread code → IsCodeOf n (map marked code)
 codes_at n [] thread code all lt e = absurd (let z : ⊥ = omega arith in z)
 codes_at n (x ∷ xs) zero code all lt e = subst (λ (c : List Marked). IsCodeOf n (map marked c)) (sym e) all.0

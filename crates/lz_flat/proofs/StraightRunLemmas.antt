@@ -18,6 +18,7 @@ pub straight_passed : (input : ℕ → ℕ) (i : ℕ) (first : Statement) (rest 
 unfolding straight
 straight_passed input i first rest memory e = rw e refl
 
+-- a word that is not 0 differs from 0
 pub differs : (v : ℕ) → v ≢ 0 → eqb v 0 ≡ false
 differs v h = decide (eqb v 0) refl
   where
@@ -25,6 +26,7 @@ differs v h = decide (eqb v 0) refl
     decide true e = absurd (h (eqb-true v 0 e))
     decide false e = e
 
+-- a statement whose guard is not 0 does what its instruction does
 pub straight_taken : (input : ℕ → ℕ) (i : ℕ) (first : Statement) (rest : List Statement) (memory : List ℕ) → value first.guard memory ≢ 0
     → straight input i (first ∷ rest) memory ≡ fate_behind (did first.instr (input i) memory) (straight input (suc i) rest)
 unfolding straight
@@ -42,12 +44,14 @@ statement_at n [] i next all lt e = absurd (let z : ⊥ = omega arith in z)
 statement_at n (x ∷ xs) zero next all lt e = rw e all.0
 statement_at n (x ∷ xs) (suc i) next all lt e = statement_at n xs i next all.1 (omega arith) e
 
+-- from here on the run is the statement at this place and those behind it
 at_next : (list : List Guarded) (first : List ℕ) (input : ℕ → ℕ) (i : ℕ) (memory : List ℕ) (next : Guarded) → RunsFrom list first input i memory → i < length list → next ≡ get_or list i next
     → straight input i (statement next ∷ map statement (drop (i + 1) list)) memory ≡ straight input 0 (map statement list) first
 at_next list first input i memory next runs lt e =
     let more : drop i list ≡ next ∷ drop (i + 1) list = drop_more list i next lt ∙ ap (λ (x : Guarded). x ∷ drop (i + 1) list) (sym e) in
     subst (λ (part : List Guarded). straight input i (map statement part) memory ≡ straight input 0 (map statement list) first) more runs.same
 
+-- a statement that moves on leaves the run from the next on
 pub moves : (list : List Guarded) (first : List ℕ) (input : ℕ → ℕ) (i : ℕ) (memory after : List ℕ) (next : Guarded) (over : ℕ) → RunsFrom list first input i memory → i < length list → next ≡ get_or list i next
     → PerformsGuarded (statement next) (input i) memory after (performed.Moved over) → All IsWord after → length after ≡ length memory → RunsFrom list first input (i + 1) after
 moves list first input i memory after next over runs lt e performs words size = record {
@@ -68,6 +72,7 @@ moves list first input i memory after next over runs lt e performs words size = 
     behind (inr runs) =
         sym (straight_taken input i (statement next) rest memory runs.0 ∙ rw runs.1 refl) ∙ here
 
+-- one that is blocked stops the run
 pub stops_here : (list : List Guarded) (first : List ℕ) (input : ℕ → ℕ) (i : ℕ) (memory after : List ℕ) (next : Guarded) → RunsFrom list first input i memory → i < length list → next ≡ get_or list i next
     → PerformsGuarded (statement next) (input i) memory after performed.Blocked → straight input 0 (map statement list) first ≡ fails → ⊥
 stops_here list first input i memory after next runs lt e performs failed =
@@ -76,6 +81,7 @@ stops_here list first input i memory after next runs lt e performs failed =
     let whole = at_next list first input i memory next runs lt e in
     cc
 
+-- one that breaks fails it
 pub fails_here : (list : List Guarded) (first : List ℕ) (input : ℕ → ℕ) (i : ℕ) (memory after : List ℕ) (next : Guarded) (kind : BreakKind) (line : ℕ) → RunsFrom list first input i memory → i < length list → next ≡ get_or list i next
     → PerformsGuarded (statement next) (input i) memory after (performed.Broke kind line) → straight input 0 (map statement list) first ≡ fails
 fails_here list first input i memory after next kind line runs lt e performs =
@@ -83,6 +89,7 @@ fails_here list first input i memory after next kind line runs lt e performs =
     let ran : straight input i (statement next ∷ rest) memory ≡ fails = straight_taken input i (statement next) rest memory performs.0 ∙ rw performs.1 refl in
     sym (at_next list first input i memory next runs lt e) ∙ ran
 
+-- a run that comes to the end has not failed
 pub holds_at_end : (list : List Guarded) (first : List ℕ) (input : ℕ → ℕ) (i : ℕ) (memory : List ℕ) → RunsFrom list first input i memory → length list ≤ i → straight input 0 (map statement list) first ≡ fails → ⊥
 unfolding straight
 holds_at_end list first input i memory runs h failed =

@@ -10,12 +10,14 @@ use Rattle.lz_flat.specs.Weight.{unary_number, binary_number, long_index_number,
 
 -- ---- each number is at least 1
 
+-- the number of a unary operator is not 0
 pub unary_positive : (op : Unary) → 1 ≤ unary_number op
 unary_positive Plus = omega arith
 unary_positive Minus = omega arith
 unary_positive Invert = omega arith
 unary_positive Not = omega arith
 
+-- nor that of a binary one
 pub binary_positive : (op : Binary) → 1 ≤ binary_number op
 binary_positive Mul = omega arith
 binary_positive Div = omega arith
@@ -36,6 +38,7 @@ binary_positive BitOr = omega arith
 binary_positive Both = omega arith
 binary_positive Either = omega arith
 
+-- nor that of an element
 pub element_positive : (len : ℕ) → 1 ≤ element_number len
 element_positive len = by_length (nat_le len 32)
   where
@@ -43,6 +46,7 @@ element_positive len = by_length (nat_le len 32)
     by_length true = omega arith
     by_length false = omega arith
 
+-- nor that of a write
 pub write_positive : (len : ℕ) → 1 ≤ write_number len
 write_positive len = by_length (nat_le len 32)
   where
@@ -50,6 +54,7 @@ write_positive len = by_length (nat_le len 32)
     by_length true = omega arith
     by_length false = omega arith
 
+-- nor that of a statement
 pub statement_positive : (i : Instruction) → 1 ≤ statement_number i
 statement_positive (sets to of) = omega arith
 statement_positive (takes to) = omega arith
@@ -57,6 +62,7 @@ statement_positive (assumes test) = omega arith
 statement_positive (checks test kind line) = omega arith
 statement_positive (skips test by) = omega arith
 
+-- nor that of an instruction
 pub instruction_positive : (i : Instruction) → 1 ≤ instruction_number i
 instruction_positive (sets to of) = omega arith
 instruction_positive (takes to) = omega arith
@@ -66,6 +72,7 @@ instruction_positive (skips test by) = omega arith
 
 -- ---- so weights bound lengths
 
+-- each expression weighs something
 pub expression_weighs : (e : Expression) → 1 ≤ expression_weight e
 expression_weighs (constant v) = omega arith
 expression_weighs (word place) = omega arith
@@ -92,26 +99,31 @@ threads_length (code ∷ rest) = let h = threads_length rest in omega (arith, h)
 
 -- ---- the numbers of elements grow with their lengths
 
+-- a longer element has a greater number, by whether either is decoded in two levels
 grows_by : (a b : ℕ) (p q : Bool) → nat_le a 32 ≡ p → nat_le b 32 ≡ q → a < b → cond p (70 * a + 2) (long_index_number a + 38 * a + 2) < cond q (70 * b + 2) (long_index_number b + 38 * b + 2)
 grows_by a b true true e f lt = omega arith
 grows_by a b true false e f lt = let x : a ≤ 32 = grind arith in let y : 32 < b = grind arith in omega arith
 grows_by a b false true e f lt = let x : 32 < a = grind arith in let y : b ≤ 32 = grind arith in absurd (let z : ⊥ = omega arith in z)
 grows_by a b false false e f lt = omega arith
 
+-- the number of an element grows with its length
 pub element_grows : (a b : ℕ) → a < b → element_number a < element_number b
 element_grows a b lt = grows_by a b (nat_le a 32) (nat_le b 32) refl refl lt
 
+-- so that of a write, by the same cases
 write_grows_by : (a b : ℕ) (p q : Bool) → nat_le a 32 ≡ p → nat_le b 32 ≡ q → a < b → cond p (73 * a + 1) (long_index_number a + 41 * a + 1) < cond q (73 * b + 1) (long_index_number b + 41 * b + 1)
 write_grows_by a b true true e f lt = omega arith
 write_grows_by a b true false e f lt = let x : a ≤ 32 = grind arith in let y : 32 < b = grind arith in omega arith
 write_grows_by a b false true e f lt = let x : 32 < a = grind arith in let y : b ≤ 32 = grind arith in absurd (let z : ⊥ = omega arith in z)
 write_grows_by a b false false e f lt = omega arith
 
+-- the number of a write grows with its length
 pub write_grows : (a b : ℕ) → a < b → write_number a < write_number b
 write_grows a b lt = write_grows_by a b (nat_le a 32) (nat_le b 32) refl refl lt
 
 -- ---- and none is above 65,536 and 1,024 times the length
 
+-- the number of an element is at most 65,536 and 1,024 for each place
 pub element_bounded : (len : ℕ) → element_number len ≤ 65536 + 1024 * len
 element_bounded len = by_length (nat_le len 32)
   where
@@ -119,6 +131,7 @@ element_bounded len = by_length (nat_le len 32)
     by_length true = omega arith
     by_length false = omega arith
 
+-- so that of a write
 pub write_bounded : (len : ℕ) → write_number len ≤ 65536 + 1024 * len
 write_bounded len = by_length (nat_le len 32)
   where

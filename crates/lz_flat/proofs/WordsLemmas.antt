@@ -8,11 +8,13 @@ use Rattle.lz_flat.specs.WellFormed.{IsExpressionOf, IsLocationOf, IsInstruction
 
 -- ---- what stands behind the words of a program does not matter to its code
 
+-- an element reads the same where words are added behind
 within : (n first len : ℕ) (i : ℕ) (words rest : List ℕ) (b : Bool) → nat_lt i len ≡ b → length words ≡ n → ((k : ℕ) → k < len → first + k < n)
     → (if b then slice_index (words ++ rest) (first + i) else 0) ≡ (if b then slice_index words (first + i) else 0)
 within n first len i words rest true e long h = let lt : i < len = grind arith in let small : first + i < length words = let s = h i lt in omega arith in get_or_append_left words rest 0 (first + i) small
 within n first len i words rest false e long h = refl
 
+-- an expression has the same value where words are added behind
 pub value_laid : (n : ℕ) (e : Expression) (words rest : List ℕ) → length words ≡ n → IsExpressionOf n e → value e (words ++ rest) ≡ value e words
 unfolding value
 value_laid n (constant v) words rest long is = refl
@@ -26,33 +28,40 @@ value_laid n (binary op kind left right) words rest long is =
 value_laid n (choose test chosen other) words rest long is =
     rw (value_laid n test words rest long is.0, value_laid n chosen words rest long is.1, value_laid n other words rest long is.2) refl
 
+-- a write leaves words that are added behind as they are
 set_within : (n first len : ℕ) (i v : ℕ) (words rest : List ℕ) (b : Bool) → nat_lt i len ≡ b → length words ≡ n → ((k : ℕ) → k < len → first + k < n)
     → (if b then slice_set (words ++ rest) (first + i) v else words ++ rest) ≡ (if b then slice_set words (first + i) v else words) ++ rest
 set_within n first len i v words rest true e long h = let lt : i < len = grind arith in let small : first + i < length words = let s = h i lt in omega arith in set-append_left words rest (first + i) v small
 set_within n first len i v words rest false e long h = refl
 
+-- a write by a location leaves words that are added behind as they are
 pub put_laid : (n : ℕ) (to : Location) (v : ℕ) (words rest : List ℕ) → length words ≡ n → IsLocationOf n to → put to v (words ++ rest) ≡ put to v words ++ rest
 unfolding put
 put_laid n to v words rest long is =
     rw (value_laid n to.index words rest long is.1) (set_within n to.first to.len (value to.index words) v words rest (nat_lt (value to.index words) to.len) refl long is.0)
 
+-- either of two lists of one length has that length
 length_cond : (b : Bool) (xs ys : List ℕ) → length xs ≡ length ys → length (cond b xs ys) ≡ length ys
 length_cond true xs ys e = e
 length_cond false xs ys e = refl
 
+-- a write keeps the number of words
 pub length_put : (to : Location) (v : ℕ) (words : List ℕ) → length (put to v words) ≡ length words
 unfolding put
 length_put to v words = length_cond (nat_lt (value to.index words) to.len) (slice_set words (to.first + value to.index words) v) words (length-set words (to.first + value to.index words) v)
 
+-- what an instruction does, with words added behind
 abbrev pub extended : List ℕ → Did → Did
 extended rest (moved over memory) = moved over (memory ++ rest)
 extended rest blocked = blocked
 extended rest (broke kind line) = broke kind line
 
+-- a choice between two, with words added behind
 extended_cond : (b : Bool) (rest : List ℕ) (d e : Did) → cond b (extended rest d) (extended rest e) ≡ extended rest (cond b d e)
 extended_cond true rest d e = refl
 extended_cond false rest d e = refl
 
+-- an instruction does the same where words are added behind
 pub did_laid : (n : ℕ) (i : Instruction) (input : ℕ) (words rest : List ℕ) → length words ≡ n → IsInstructionOf n i → did i input (words ++ rest) ≡ extended rest (did i input words)
 unfolding did
 did_laid n (sets to of) input words rest long is =
@@ -70,10 +79,12 @@ Keeps n (moved over memory) = length memory ≡ n
 Keeps n blocked = ⊤
 Keeps n (broke kind line) = ⊤
 
+-- a choice keeps the number of words where both sides do
 keeps_cond : (n : ℕ) (b : Bool) (d e : Did) → Keeps n d → Keeps n e → Keeps n (cond b d e)
 keeps_cond n true d e h k = h
 keeps_cond n false d e h k = k
 
+-- an instruction keeps the number of words
 pub did_keeps : (n : ℕ) (i : Instruction) (input : ℕ) (words : List ℕ) → length words ≡ n → Keeps n (did i input words)
 unfolding did
 did_keeps n (sets to of) input words long = length_put to (value of words) words ∙ long

@@ -3,7 +3,7 @@ ghost use Rattle.lz_flat.specs.Programs.{expression, location, instruction};
 ghost use Rattle.lz_flat.specs.Programs as spec;
 
 use crate::program::{FlatExpr, Instr, Spot};
-use lz_base::{Binary, IntType, Memory};
+use lz_base::{Binary, IntType, Memory, Unary};
 use std::alloc::Global;
 
 /// The expression `left op right` at operands of a kind.
@@ -45,6 +45,30 @@ pub fn choose_expr(
     })
 }
 
+/// The expression that names a word by an index.
+fn element_expr(alloc: Global, first: u32, len: u32, index: FlatExpr) -> Result<FlatExpr, Memory>
+    ensures { IfOk result (λ made. expression made ≡ spec.element first len (expression index)) }
+{
+    let index = Box::new(alloc, index)?;
+    Ok(FlatExpr::Element { first, len, index })
+}
+
+/// The expression `op of` at an operand of a kind.
+fn unary_expr(alloc: Global, op: Unary, kind: IntType, of: FlatExpr) -> Result<FlatExpr, Memory>
+    ensures { IfOk result (λ made. expression made ≡ spec.unary op kind (expression of)) }
+{
+    let of = Box::new(alloc, of)?;
+    Ok(FlatExpr::Unary { op, kind, of })
+}
+
+/// The expression that converts from one kind to another.
+fn convert_expr(alloc: Global, from: IntType, to: IntType, of: FlatExpr) -> Result<FlatExpr, Memory>
+    ensures { IfOk result (λ made. expression made ≡ spec.convert from to (expression of)) }
+{
+    let of = Box::new(alloc, of)?;
+    Ok(FlatExpr::Convert { from, to, of })
+}
+
 /// A copy of an expression.
 pub fn copy_expr(alloc: Global, expr: &FlatExpr) -> Result<FlatExpr, Memory>
     ensures { IfOk result (λ copy. expression copy ≡ expression expr.now) }
@@ -54,21 +78,11 @@ pub fn copy_expr(alloc: Global, expr: &FlatExpr) -> Result<FlatExpr, Memory>
         FlatExpr::Word { place } => Ok(FlatExpr::Word { place: *place }),
         FlatExpr::Element { first, len, index } => {
             let index = copy_expr(alloc, index)?;
-            let index = Box::new(alloc, index)?;
-            Ok(FlatExpr::Element {
-                first: *first,
-                len: *len,
-                index,
-            })
+            element_expr(alloc, *first, *len, index)
         }
         FlatExpr::Unary { op, kind, of } => {
             let of = copy_expr(alloc, of)?;
-            let of = Box::new(alloc, of)?;
-            Ok(FlatExpr::Unary {
-                op: *op,
-                kind: *kind,
-                of,
-            })
+            unary_expr(alloc, *op, *kind, of)
         }
         FlatExpr::Binary {
             op,
@@ -82,12 +96,7 @@ pub fn copy_expr(alloc: Global, expr: &FlatExpr) -> Result<FlatExpr, Memory>
         }
         FlatExpr::Convert { from, to, of } => {
             let of = copy_expr(alloc, of)?;
-            let of = Box::new(alloc, of)?;
-            Ok(FlatExpr::Convert {
-                from: *from,
-                to: *to,
-                of,
-            })
+            convert_expr(alloc, *from, *to, of)
         }
         FlatExpr::Choose { test, yes, no } => {
             let test = copy_expr(alloc, test)?;

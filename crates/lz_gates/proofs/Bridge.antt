@@ -7,30 +7,36 @@ use Rattle.lz_cnf.specs.Models.{variable_of, is_negated, IsTrueLit, IsModel}
 use Rattle.lz_gates.specs.Circuits.{Assignment, value, clause_value, Satisfies, AreBelow}
 use Rattle.lz_gates.specs.Values.{assigned, listed}
 
+-- a value that is read is the one in the list
 read_value : (values : List Bool) (i : ℕ) (v : Bool) → slice_get values i ≡ Some v → get_or values i false ≡ v
 read_value [] i v e = absurd cc
 read_value (x ∷ xs) zero v e = cc
 read_value (x ∷ xs) (suc i) v e = read_value xs i v e
 
+-- a value in its own sign is true
 sign_true : (b : Bool) → cond b (not (not b)) (not b) ≡ true
 sign_true true = refl
 sign_true false = refl
 
+-- a literal that is true by a list of values is true by its assignment
 lit_true : (values : List Bool) (lit : Lit) → IsTrueLit values lit → value (assigned values) lit ≡ true
 unfolding value
 lit_true values lit h =
     ap (λ (v : Bool). cond (is_negated lit) (not v) v) (read_value values (variable_of lit) (not (is_negated lit)) h) ∙ sign_true (is_negated lit)
 
+-- one of two is true where the second is
 or_right : (x y : Bool) → y ≡ true → (x || y) ≡ true
 or_right true y e = refl
 or_right false y e = e
 
+-- a clause with a true literal is true by the assignment
 some_true : (values : List Bool) (clause : List Lit) (k : ℕ) (x : Lit) → k < length clause → get_or clause k x ≡ x → IsTrueLit values x → clause_value (assigned values) clause ≡ true
 unfolding clause_value
 some_true values [] k x lt e h = absurd (omega arith)
 some_true values (lit ∷ lits) zero x lt e h = ap (λ (v : Bool). v || clause_value (assigned values) lits) (lit_true values lit (subst (IsTrueLit values) (sym e) h))
 some_true values (lit ∷ lits) (suc k) x lt e h = or_right (value (assigned values) lit) (clause_value (assigned values) lits) (some_true values lits k x (omega arith) e h)
 
+-- a model's assignment satisfies the clauses
 all_true : (values : List Bool) (clauses : List (List Lit)) → All (λ clause. Any (IsTrueLit values) clause) clauses → Satisfies (assigned values) clauses
 unfolding Satisfies
 all_true values [] all = tt
@@ -53,16 +59,19 @@ listed_at zero a i lt = absurd (omega arith)
 listed_at (suc n) a zero lt = refl
 listed_at (suc n) a (suc i) lt = listed_at n (λ j. a (suc j)) i (omega arith)
 
+-- a literal is true where its variable has the value that its sign asks for
 sign_is : (b v : Bool) → cond b (not v) v ≡ true → v ≡ not b
 sign_is true true h = sym h
 sign_is true false h = refl
 sign_is false true h = refl
 sign_is false false h = h
 
+-- a literal that is true by an assignment is true by its list of values
 lit_model : (n : ℕ) (a : Assignment) (lit : Lit) → variable_of lit < n → value a lit ≡ true → IsTrueLit (listed n a) lit
 unfolding value
 lit_model n a lit lt h = listed_at n a (variable_of lit) lt ∙ ap (λ (v : Bool). Some v) (sign_is (is_negated lit) (a (variable_of lit)) h)
 
+-- so a clause
 clause_model : (n : ℕ) (a : Assignment) (clause : List Lit) → All (λ lit. variable_of lit < n) clause → clause_value a clause ≡ true → Any (IsTrueLit (listed n a)) clause
 unfolding clause_value
 clause_model n a [] all h = absurd cc
@@ -75,6 +84,7 @@ clause_model n a (lit ∷ lits) all h =
         let rest = more (sym (ap (λ (v : Bool). v || clause_value a lits) e) ∙ g) in
         (suc rest.0, rest.1, (let lt = rest.2 in omega arith), rest.3, rest.4)
 
+-- so all clauses
 all_model : (n : ℕ) (a : Assignment) (clauses : List (List Lit)) → AreBelow n clauses → Satisfies a clauses → All (λ clause. Any (IsTrueLit (listed n a)) clause) clauses
 unfolding AreBelow Satisfies
 all_model n a [] below s k d lt = absurd (omega arith)

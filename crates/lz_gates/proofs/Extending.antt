@@ -6,40 +6,48 @@ use Rattle.lz_cnf.specs.declared.clause.Lit.{Lit}
 use Rattle.lz_cnf.specs.Models.{variable_of, is_negated}
 use Rattle.lz_gates.specs.Circuits.{Circuit, Assignment, value, clause_value, Satisfies, Agree, AreBelow, IsCircuit, Extends, Makes, IsFold}
 
+-- who satisfies two lists of clauses satisfies the first
 pub satisfies_front : (a : Assignment) (xs ys : List (List Lit)) → Satisfies a (xs ++ ys) → Satisfies a xs
 unfolding Satisfies
 satisfies_front a [] ys h = tt
 satisfies_front a (x ∷ xs) ys h = (h.0, satisfies_front a xs ys h.1)
 
+-- and the second
 pub satisfies_back : (a : Assignment) (xs ys : List (List Lit)) → Satisfies a (xs ++ ys) → Satisfies a ys
 unfolding Satisfies
 satisfies_back a [] ys h = h
 satisfies_back a (x ∷ xs) ys h = satisfies_back a xs ys h.1
 
+-- and who satisfies both satisfies them together
 pub satisfies_append : (a : Assignment) (xs ys : List (List Lit)) → Satisfies a xs → Satisfies a ys → Satisfies a (xs ++ ys)
 unfolding Satisfies
 satisfies_append a [] ys h k = k
 satisfies_append a (x ∷ xs) ys h k = (h.0, satisfies_append a xs ys h.1 k)
 
+-- two lists of clauses over the variables are one
 pub below_append : (n : ℕ) (xs ys : List (List Lit)) → AreBelow n xs → AreBelow n ys → AreBelow n (xs ++ ys)
 unfolding AreBelow
 below_append n [] ys h k = k
 below_append n (x ∷ xs) ys h k = (h.0, below_append n xs ys h.1 k)
 
+-- clauses over some variables are clauses over more
 pub below_more : (n m : ℕ) (xs : List (List Lit)) → n ≤ m → AreBelow n xs → AreBelow m xs
 unfolding AreBelow
 below_more n m [] le h = tt
 below_more n m (x ∷ xs) le h =
     (record { some = h.0.some; lits = λ k d lt. let one = h.0.lits k d lt in omega (arith, one) }, below_more n m xs le h.1)
 
+-- what agrees with what agrees, agrees
 pub agree_trans : (n m : ℕ) (a b c : Assignment) → n ≤ m → Agree n a b → Agree m b c → Agree n a c
 unfolding Agree
 agree_trans n m a b c le h k x lt = h x lt ∙ k x (omega arith)
 
+-- agreement holds both ways
 pub agree_sym : (n : ℕ) (a b : Assignment) → Agree n a b → Agree n b a
 unfolding Agree
 agree_sym n a b h x lt = sym (h x lt)
 
+-- each agrees with itself
 pub agree_refl : (n : ℕ) (a : Assignment) → Agree n a a
 unfolding Agree
 agree_refl n a x lt = refl
@@ -58,6 +66,7 @@ clause_agrees n a b (lit ∷ lits) h all =
     let rest = clause_agrees n a b lits h (λ k d lt. all (suc k) d (omega arith)) in
     ap (λ (v : Bool). v || clause_value a lits) first ∙ ap (λ (v : Bool). value b lit || v) rest
 
+-- who agrees with one that satisfies clauses satisfies them
 pub satisfies_agrees : (n : ℕ) (a b : Assignment) (clauses : List (List Lit)) → Agree n a b → AreBelow n clauses → Satisfies a clauses → Satisfies b clauses
 unfolding Satisfies AreBelow
 satisfies_agrees n a b [] h all s = tt
@@ -74,6 +83,7 @@ extends_same old = record {
   below = tt;
   extended = λ a. (a, agree_refl old.variables a, tt);
   once = λ a b h s t. h;
+  working = refl;
 }
 
 -- one call after the other
@@ -94,12 +104,14 @@ extends_then one two three h k = record {
       k.once a b
       (h.once a b same (satisfies_front a h.added k.added s) (satisfies_front b h.added k.added t))
       (satisfies_back a h.added k.added s) (satisfies_back b h.added k.added t);
+  working = k.working ∙ h.working;
 }
 
 -- what held in each model still does
 pub still : (old new : Circuit) → Extends old new → (a : Assignment) → Satisfies a new.clauses → Satisfies a old.clauses
 still old new h a s = satisfies_front a old.clauses h.added (subst (Satisfies a) h.clauses s)
 
+-- a circuit that is extended stays one
 pub is_circuit_still : (old new : Circuit) → Extends old new → IsCircuit old → IsCircuit new
 is_circuit_still old new h c = record {
   some = let p = c.some in let q = h.more in omega arith;
@@ -120,6 +132,7 @@ each_model_once old new h circuit a s =
           (satisfies_back c old.clauses h.added (subst (Satisfies c) h.clauses t)),
     )
 
+-- a call that adds nothing
 pub makes_same : (old : Circuit) (Says : Assignment → Type 0) → ((a : Assignment) → Satisfies a old.clauses → Says a) → Makes old old 0 0 Says
 makes_same old Says h = record {
   extends = extends_same old;
@@ -138,6 +151,7 @@ makes_then one two three v w c d P Q R h k both = record {
   says = λ a s. both a (h.says a (still two three k.extends a s)) (k.says a s);
 }
 
+-- a call, with greater bounds, and with what follows from what it says
 pub makes_so : (old new : Circuit) (v w c d : ℕ) (P Q : Assignment → Type 0) → Makes old new v c P → v ≤ w → c ≤ d
     → ((a : Assignment) → Satisfies a new.clauses → P a → Q a) → Makes old new w d Q
 makes_so old new v w c d P Q h le lf so = record {
@@ -156,6 +170,7 @@ makes_folded old first second third count lit v circuit fold = record {
   says = λ a s. fold.says a (circuit.truth a s);
 }
 
+-- a circuit stays one with more variables
 pub is_circuit_fresh : (n m : ℕ) (clauses : List (List Lit)) (f g : Bool) → n ≤ m → IsCircuit (record { variables = n; clauses = clauses; spent = f }) → IsCircuit (record { variables = m; clauses = clauses; spent = g })
 is_circuit_fresh n m clauses f g le c = record {
   some = let p = c.some in omega arith;
@@ -163,6 +178,7 @@ is_circuit_fresh n m clauses f g le c = record {
   truth = c.truth;
 }
 
+-- a circuit stays one with one more clause over its variables
 pub is_circuit_require : (n : ℕ) (clauses : List (List Lit)) (clause : List Lit) (f g : Bool) → 0 < length clause → All (λ lit. variable_of lit < n) clause → IsCircuit (record { variables = n; clauses = clauses; spent = f }) → IsCircuit (record { variables = n; clauses = clauses ++ clause ∷ []; spent = g })
 unfolding AreBelow
 is_circuit_require n clauses clause f g some all c = record {
@@ -171,6 +187,7 @@ is_circuit_require n clauses clause f g some all c = record {
   truth = λ a s. c.truth a (satisfies_front a clauses (clause ∷ []) s);
 }
 
+-- the first clause makes a circuit
 pub is_circuit_first : (lit : Lit) (clauses : List (List Lit)) (f : Bool) → lit.0 ≡ 0 → clauses ≡ (lit ∷ []) ∷ [] → IsCircuit (record { variables = 1; clauses = clauses; spent = f })
 unfolding AreBelow Satisfies clause_value value
 is_circuit_first lit clauses f z e = record {

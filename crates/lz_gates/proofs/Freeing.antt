@@ -11,30 +11,37 @@ use Rattle.lz_gates.specs.Freedom.{AgreeOn, AreVariables, IsFree}
 use Rattle.lz_gates.proofs.Gate.{value-positive}
 use Rattle.lz_gates.proofs.Extending.{satisfies_agrees, satisfies_front, satisfies_back, satisfies_append, below_append, below_more}
 
+-- variables of a circuit are variables of a larger one
 variables_more : (old new : Circuit) (xs : List ℕ) → old.variables ≤ new.variables → AreVariables old xs → AreVariables new xs
 unfolding AreVariables
 variables_more old new [] le h = tt
 variables_more old new (x ∷ xs) le h = (let p = h.0 in omega arith, variables_more old new xs le h.1)
 
+-- who agrees on all variables agrees on some
 on_agrees : (circuit : Circuit) (xs : List ℕ) (v a b : Assignment) → AreVariables circuit xs → Agree circuit.variables a b → AgreeOn xs v a → AgreeOn xs v b
 unfolding AreVariables AgreeOn Agree
 on_agrees circuit [] v a b h same on = tt
 on_agrees circuit (x ∷ xs) v a b h same on = (on.0 ∙ same x h.0, on_agrees circuit xs v a b h.1 same on.1)
 
+-- the assignment with another value at n
 abbrev put : Assignment → ℕ → Bool → Assignment
 put a n v x = cond (eqb x n) v (a x)
 
+-- it has that value there
 put_same : (a : Assignment) (n : ℕ) (v : Bool) → put a n v n ≡ v
 put_same a n v = grind (arith, nat_tests)
 
+-- and agrees below
 put_below : (a : Assignment) (n : ℕ) (v : Bool) → Agree n a (put a n v)
 unfolding Agree
 put_below a n v x lt = grind (arith, nat_tests)
 
+-- two that agree below n and at n agree below n + 1
 agree_one : (n m : ℕ) (a b : Assignment) → m ≡ n + 1 → Agree n a b → a n ≡ b n → Agree m a b
 unfolding Agree
 agree_one n m a b e h here x lt = grind arith
 
+-- a fresh variable may have any value beside the others
 pub free_fresh : (old new : Circuit) (fresh : List ℕ) (gates : List (List Lit)) → IsFree old fresh gates → new.variables ≡ old.variables + 1 → new.clauses ≡ old.clauses → IsFree new (old.variables ∷ fresh) gates
 unfolding AreVariables AgreeOn
 free_fresh old new fresh gates h more same_clauses = record {
@@ -53,6 +60,7 @@ free_fresh old new fresh gates h more same_clauses = record {
   once = λ a b on s t. agree_one old.variables new.variables a b more (h.once a b on.1 s t) on.0;
 }
 
+-- a gate is settled by what settled the others
 pub free_gate : (old new : Circuit) (fresh : List ℕ) (gates : List (List Lit)) (e : Extends old new) → IsFree old fresh gates → IsFree new fresh (gates ++ e.added)
 free_gate old new fresh gates e h = record {
   kept = subst (λ (cs : List (List Lit)). All (Contains cs) (gates ++ e.added)) (sym e.clauses)
@@ -69,6 +77,7 @@ free_gate old new fresh gates e h = record {
       e.once a b (h.once a b on (satisfies_front a gates e.added s) (satisfies_front b gates e.added t)) (satisfies_back a gates e.added s) (satisfies_back b gates e.added t);
 }
 
+-- a required clause is left aside
 pub free_require : (old new : Circuit) (fresh : List ℕ) (gates : List (List Lit)) (clause : List Lit) → IsFree old fresh gates → new.variables ≡ old.variables → new.clauses ≡ old.clauses ++ clause ∷ [] → IsFree new fresh gates
 free_require old new fresh gates clause h same more = record {
   kept = subst (λ (cs : List (List Lit)). All (Contains cs) gates) (sym more) (λ k d lt. Contains-append_left old.clauses (clause ∷ []) (get_or gates k d) (h.kept k d lt));
@@ -78,10 +87,12 @@ free_require old new fresh gates clause h same more = record {
   once = λ a b on s t. subst (λ (n : ℕ). Agree n a b) (sym same) (h.once a b on s t);
 }
 
+-- one of two is true where the second is false and some is true
 or_false : (x : Bool) → (x || false) ≡ true → x ≡ true
 or_false true h = refl
 or_false false h = h
 
+-- one of two is true where the first is
 true_or : (x : Bool) → x ≡ true → (x || false) ≡ true
 true_or true h = refl
 true_or false h = h

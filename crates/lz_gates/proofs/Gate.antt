@@ -8,12 +8,14 @@ use Rattle.lz_cnf.proofs.LitLemmas.{is_negated-negated}
 pub use Rattle.lz_cnf.proofs.LitLemmas.{variable_of-negated}
 use Rattle.lz_gates.specs.Circuits.{Circuit, Assignment, value, Satisfies, Agree, AreBelow, Extends}
 
+-- a value in the other sign is the opposite
 cond-not : (b v : Bool) → cond (not b) (not v) v ≡ not (cond b (not v) v)
 cond-not true true = refl
 cond-not true false = refl
 cond-not false true = refl
 cond-not false false = refl
 
+-- the opposite literal has the opposite value
 pub value-negated : (a : Assignment) (lit : Lit) → value a (negated lit) ≡ not (value a lit)
 unfolding value
 value-negated a lit =
@@ -21,12 +23,15 @@ value-negated a lit =
     ∙ ap (λ (b : Bool). cond b (not (a (variable_of lit))) (a (variable_of lit))) (is_negated-negated lit)
     ∙ cond-not (is_negated lit) (a (variable_of lit))
 
+-- the literal of a variable without a sign
 pub positive : ℕ → Lit
 positive n = record { 0 = 2 * n }
 
+-- its variable
 pub variable_of-positive : (lit : Lit) (n : ℕ) → lit.0 ≡ 2 * n → variable_of lit ≡ n
 variable_of-positive lit n e = omega arith
 
+-- its value is its variable's
 pub value-positive : (a : Assignment) (lit : Lit) (n : ℕ) → lit.0 ≡ 2 * n → value a lit ≡ a n
 unfolding value
 value-positive a lit n e =
@@ -39,13 +44,16 @@ value-positive a lit n e =
 abbrev put : Assignment → ℕ → Bool → Assignment
 put a n v x = cond (eqb x n) v (a x)
 
+-- it has that value there
 put_same : (a : Assignment) (n : ℕ) (v : Bool) → put a n v n ≡ v
 put_same a n v = grind (arith, nat_tests)
 
+-- and agrees below
 put_below : (a : Assignment) (n : ℕ) (v : Bool) → Agree n a (put a n v)
 unfolding Agree
 put_below a n v x lt = grind (arith, nat_tests)
 
+-- two that agree below n and at n agree below n + 1
 agree_one : (n m : ℕ) (a b : Assignment) → m ≡ n + 1 → Agree n a b → a n ≡ b n → Agree m a b
 unfolding Agree
 agree_one n m a b e h here x lt = grind arith
@@ -56,8 +64,9 @@ pub extends_by_value : (old new : Circuit) (added : List (List Lit)) (v : Assign
     → ((a b : Assignment) → Agree old.variables a b → v a ≡ v b)
     → ((a : Assignment) → a old.variables ≡ v a → Satisfies a added)
     → ((a : Assignment) → Satisfies a added → a old.variables ≡ v a)
+    → new.spent ≡ old.spent
     → Extends old new
-extends_by_value old new added v e clauses below settled holds only = record {
+extends_by_value old new added v e clauses below settled holds only working = record {
   added = added;
   more = omega arith;
   clauses = clauses;
@@ -68,6 +77,12 @@ extends_by_value old new added v e clauses below settled holds only = record {
       let same : Agree n a b = put_below a n (v a) in
       (b, same, holds b (put_same a n (v a) ∙ settled a b same));
   once = λ a b same s t. agree_one old.variables new.variables a b e same (only a s ∙ settled a b same ∙ sym (only b t));
+  working = working;
 }
+
+-- a circuit that was not spent is as it was where it is not spent now
+pub still_working : (old new : Bool) → (old ≡ true → false ≡ true) → new ≡ false → new ≡ old
+still_working true new h e = let f = h refl in absurd cc
+still_working false new h e = e
 
 -- a variable alone: free, so no call of this kind is Extends

@@ -8,17 +8,19 @@ use Rattle.lz_gates.proofs.Extending.{value_agrees, satisfies_back}
 use Rattle.lz_gates.proofs.Lists.{below_two as two, below_three as three}
 use Rattle.lz_gates.proofs.Gate.{variable_of-negated, variable_of-positive, value-negated, value-positive, extends_by_value}
 
+-- a new variable, with clauses that hold exactly where it has a value that older variables settle
 pub gate_makes : (old new : Circuit) (g : Lit) (added : List (List Lit)) (count : ℕ) (v : Assignment → Bool)
     → g.0 ≡ 2 * old.variables → new.variables ≡ old.variables + 1 → new.clauses ≡ old.clauses ++ added → length added ≤ count
     → AreBelow (old.variables + 1) added
     → ((a b : Assignment) → Agree old.variables a b → v a ≡ v b)
     → ((a : Assignment) → value a g ≡ v a → Satisfies a added)
     → ((a : Assignment) → Satisfies a added → value a g ≡ v a)
+    → new.spent ≡ old.spent
     → Makes old new 1 count (λ a. value a g ≡ v a)
-gate_makes old new g added count v at more clauses few below settled holds only =
+gate_makes old new g added count v at more clauses few below settled holds only working =
     let at_n : (a : Assignment) → value a g ≡ a old.variables = λ a. value-positive a g old.variables at in
     let ext : Extends old new = extends_by_value old new added v more clauses (subst (λ (n : ℕ). AreBelow n added) (sym more) below) settled
-    (λ a e. holds a (at_n a ∙ e)) (λ a s. sym (at_n a) ∙ only a s) in
+    (λ a e. holds a (at_n a ∙ e)) (λ a s. sym (at_n a) ∙ only a s) working in
     record {
       extends = ext;
       variables_most = omega arith;
@@ -30,11 +32,13 @@ gate_makes old new g added count v at more clauses few below settled holds only 
 below_two : (n : ℕ) (p q : Lit) → variable_of p < n → variable_of q < n → IsBelow n (p ∷ q ∷ [])
 below_two n p q h k = record { some = omega arith; lits = two n p q h k }
 
+-- three literals of variables below n
 below_three : (n : ℕ) (p q r : Lit) → variable_of p < n → variable_of q < n → variable_of r < n → IsBelow n (p ∷ q ∷ r ∷ [])
 below_three n p q r h k l = record { some = omega arith; lits = three n p q r h k l }
 
 -- ---- and
 
+-- the clauses of a conjunction hold where the gate has its value
 and_holds : (g x y : Bool) → g ≡ (x && y) → ((not g || (x || false)) ≡ true) × (((not g || (y || false)) ≡ true) × (((g || (not x || (not y || false))) ≡ true) × Unit {0}))
 and_holds true true true e = (refl, (refl, (refl, tt)))
 and_holds true true false e = absurd cc
@@ -44,6 +48,7 @@ and_holds false true false e = (refl, (refl, (refl, tt)))
 and_holds false false true e = (refl, (refl, (refl, tt)))
 and_holds false false false e = (refl, (refl, (refl, tt)))
 
+-- and only there
 and_only : (g x y : Bool) → ((not g || (x || false)) ≡ true) → ((not g || (y || false)) ≡ true) → ((g || (not x || (not y || false))) ≡ true) → g ≡ (x && y)
 and_only true true true h k l = refl
 and_only true true false h k l = cc
@@ -53,11 +58,13 @@ and_only false true false h k l = refl
 and_only false false true h k l = refl
 and_only false false false h k l = refl
 
+-- the three clauses make a conjunction
 pub and_makes : (old new : Circuit) (l r g : Lit) → g.0 ≡ 2 * old.variables → new.variables ≡ old.variables + 1 → IsLit old l → IsLit old r
     → new.clauses ≡ ((old.clauses ++ (negated g ∷ l ∷ []) ∷ []) ++ (negated g ∷ r ∷ []) ∷ []) ++ (g ∷ negated l ∷ negated r ∷ []) ∷ []
+    → new.spent ≡ old.spent
     → Makes old new 1 3 (λ a. value a g ≡ (value a l && value a r))
 unfolding Satisfies clause_value AreBelow
-and_makes old new l r g at more l_in r_in clauses =
+and_makes old new l r g at more l_in r_in clauses working =
     let n = old.variables + 1 in
     let g_n : variable_of g < old.variables + 1 = omega (arith, variable_of-positive g old.variables at) in
     let ng_n : variable_of (negated g) < old.variables + 1 = omega (arith, variable_of-negated g, g_n) in
@@ -69,10 +76,11 @@ and_makes old new l r g at more l_in r_in clauses =
     (below_two n _ _ ng_n (omega arith), (below_two n _ _ ng_n (omega arith), (below_three n _ _ _ g_n nl_n nr_n, tt)))
     (λ a b same. ap (λ (x : Bool). x && value a r) (value_agrees old.variables a b l same l_in) ∙ ap (λ (x : Bool). value b l && x) (value_agrees old.variables a b r same r_in))
     (λ a e. rw (value-negated a g, value-negated a l, value-negated a r) (and_holds (value a g) (value a l) (value a r) e))
-    (λ a s. let t = rw (value-negated a g, value-negated a l, value-negated a r) at s in and_only (value a g) (value a l) (value a r) t.0 t.1.0 t.1.1.0)
+    (λ a s. let t = rw (value-negated a g, value-negated a l, value-negated a r) at s in and_only (value a g) (value a l) (value a r) t.0 t.1.0 t.1.1.0) working
 
 -- ---- xor
 
+-- the clauses of a difference hold where the gate has its value
 xor_holds : (g x y : Bool) → g ≡ xor x y → ((not g || (x || (y || false))) ≡ true) × (((not g || (not x || (not y || false))) ≡ true) × (((g || (not x || (y || false))) ≡ true) × (((g || (x || (not y || false))) ≡ true) × Unit {0})))
 xor_holds true true true e = absurd cc
 xor_holds true true false e = (refl, (refl, (refl, (refl, tt))))
@@ -83,6 +91,7 @@ xor_holds false true false e = absurd cc
 xor_holds false false true e = absurd cc
 xor_holds false false false e = (refl, (refl, (refl, (refl, tt))))
 
+-- and only there
 xor_only : (g x y : Bool) → ((not g || (x || (y || false))) ≡ true) → ((not g || (not x || (not y || false))) ≡ true) → ((g || (not x || (y || false))) ≡ true) → ((g || (x || (not y || false))) ≡ true) → g ≡ xor x y
 xor_only true true true h k l m = cc
 xor_only true true false h k l m = refl
@@ -93,11 +102,13 @@ xor_only false true false h k l m = cc
 xor_only false false true h k l m = cc
 xor_only false false false h k l m = refl
 
+-- the four clauses make a difference
 pub xor_makes : (old new : Circuit) (l r g : Lit) → g.0 ≡ 2 * old.variables → new.variables ≡ old.variables + 1 → IsLit old l → IsLit old r
     → new.clauses ≡ (((old.clauses ++ (negated g ∷ l ∷ r ∷ []) ∷ []) ++ (negated g ∷ negated l ∷ negated r ∷ []) ∷ []) ++ (g ∷ negated l ∷ r ∷ []) ∷ []) ++ (g ∷ l ∷ negated r ∷ []) ∷ []
+    → new.spent ≡ old.spent
     → Makes old new 1 4 (λ a. value a g ≡ xor (value a l) (value a r))
 unfolding Satisfies clause_value AreBelow
-xor_makes old new l r g at more l_in r_in clauses =
+xor_makes old new l r g at more l_in r_in clauses working =
     let n = old.variables + 1 in
     let g_n : variable_of g < old.variables + 1 = omega (arith, variable_of-positive g old.variables at) in
     let ng_n : variable_of (negated g) < old.variables + 1 = omega (arith, variable_of-negated g, g_n) in
@@ -111,10 +122,11 @@ xor_makes old new l r g at more l_in r_in clauses =
     (below_three n _ _ _ ng_n l_n r_n, (below_three n _ _ _ ng_n nl_n nr_n, (below_three n _ _ _ g_n nl_n r_n, (below_three n _ _ _ g_n l_n nr_n, tt))))
     (λ a b same. ap (λ (x : Bool). xor x (value a r)) (value_agrees old.variables a b l same l_in) ∙ ap (λ (x : Bool). xor (value b l) x) (value_agrees old.variables a b r same r_in))
     (λ a e. rw (value-negated a g, value-negated a l, value-negated a r) (xor_holds (value a g) (value a l) (value a r) e))
-    (λ a s. let t = rw (value-negated a g, value-negated a l, value-negated a r) at s in xor_only (value a g) (value a l) (value a r) t.0 t.1.0 t.1.1.0 t.1.1.1.0)
+    (λ a s. let t = rw (value-negated a g, value-negated a l, value-negated a r) at s in xor_only (value a g) (value a l) (value a r) t.0 t.1.0 t.1.1.0 t.1.1.1.0) working
 
 -- ---- choice
 
+-- the clauses of a choice hold where the gate has its value
 choice_holds : (g c x y : Bool) → g ≡ choice c x y → ((not c || (not x || (g || false))) ≡ true) × (((not c || (x || (not g || false))) ≡ true) × (((c || (not y || (g || false))) ≡ true) × (((c || (y || (not g || false))) ≡ true) × (((not x || (not y || (g || false))) ≡ true) × (((x || (y || (not g || false))) ≡ true) × Unit {0})))))
 choice_holds true true true true e = (refl, (refl, (refl, (refl, (refl, (refl, tt))))))
 choice_holds true true true false e = (refl, (refl, (refl, (refl, (refl, (refl, tt))))))
@@ -129,6 +141,7 @@ choice_holds false false x true e = absurd cc
 choice_holds false false true false e = (refl, (refl, (refl, (refl, (refl, (refl, tt))))))
 choice_holds false false false false e = (refl, (refl, (refl, (refl, (refl, (refl, tt))))))
 
+-- and only there
 choice_only : (g c x y : Bool) → ((not c || (not x || (g || false))) ≡ true) → ((not c || (x || (not g || false))) ≡ true) → ((c || (not y || (g || false))) ≡ true) → ((c || (y || (not g || false))) ≡ true) → g ≡ choice c x y
 choice_only true true true y h k l m = refl
 choice_only true true false y h k l m = cc
@@ -139,11 +152,13 @@ choice_only false true false y h k l m = refl
 choice_only false false x true h k l m = cc
 choice_only false false x false h k l m = refl
 
+-- the six clauses make a choice
 pub choice_makes : (old new : Circuit) (c l r g : Lit) → g.0 ≡ 2 * old.variables → new.variables ≡ old.variables + 1 → IsLit old c → IsLit old l → IsLit old r
     → new.clauses ≡ (((((old.clauses ++ (negated c ∷ negated l ∷ g ∷ []) ∷ []) ++ (negated c ∷ l ∷ negated g ∷ []) ∷ []) ++ (c ∷ negated r ∷ g ∷ []) ∷ []) ++ (c ∷ r ∷ negated g ∷ []) ∷ []) ++ (negated l ∷ negated r ∷ g ∷ []) ∷ []) ++ (l ∷ r ∷ negated g ∷ []) ∷ []
+    → new.spent ≡ old.spent
     → Makes old new 1 6 (λ a. value a g ≡ choice (value a c) (value a l) (value a r))
 unfolding Satisfies clause_value AreBelow
-choice_makes old new c l r g at more c_in l_in r_in clauses =
+choice_makes old new c l r g at more c_in l_in r_in clauses working =
     let n = old.variables + 1 in
     let g_n : variable_of g < old.variables + 1 = omega (arith, variable_of-positive g old.variables at) in
     let ng_n : variable_of (negated g) < old.variables + 1 = omega (arith, variable_of-negated g, g_n) in
@@ -159,4 +174,4 @@ choice_makes old new c l r g at more c_in l_in r_in clauses =
     (below_three n _ _ _ nc_n nl_n g_n, (below_three n _ _ _ nc_n l_n ng_n, (below_three n _ _ _ c_n nr_n g_n, (below_three n _ _ _ c_n r_n ng_n, (below_three n _ _ _ nl_n nr_n g_n, (below_three n _ _ _ l_n r_n ng_n, tt))))))
     (λ a b same. ap (λ (x : Bool). choice x (value a l) (value a r)) (value_agrees old.variables a b c same c_in) ∙ ap (λ (x : Bool). choice (value b c) x (value a r)) (value_agrees old.variables a b l same l_in) ∙ ap (λ (x : Bool). choice (value b c) (value b l) x) (value_agrees old.variables a b r same r_in))
     (λ a e. rw (value-negated a c, value-negated a g, value-negated a l, value-negated a r) (choice_holds (value a g) (value a c) (value a l) (value a r) e))
-    (λ a s. let t = rw (value-negated a c, value-negated a g, value-negated a l, value-negated a r) at s in choice_only (value a g) (value a c) (value a l) (value a r) t.0 t.1.0 t.1.1.0 t.1.1.1.0)
+    (λ a s. let t = rw (value-negated a c, value-negated a g, value-negated a l, value-negated a r) at s in choice_only (value a g) (value a c) (value a l) (value a r) t.0 t.1.0 t.1.1.0 t.1.1.1.0) working

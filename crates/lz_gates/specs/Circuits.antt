@@ -61,7 +61,7 @@ pub record IsCircuit (circuit : Circuit) : Type 0 where
   pub truth : (a : Assignment) → Satisfies a circuit.clauses → a 0 ≡ true
 
 -- Each assignment of the variables so far extends to the new variables in exactly one way that satisfies the
--- new clauses.
+-- new clauses. A circuit that was not spent is not spent then.
 pub record Extends (old new : Circuit) : Type 0 where
   pub added : List (List Lit)
   pub more : old.variables ≤ new.variables
@@ -69,6 +69,7 @@ pub record Extends (old new : Circuit) : Type 0 where
   pub below : AreBelow new.variables added
   pub extended : (a : Assignment) → (b : Assignment) × Agree old.variables a b × Satisfies b added
   pub once : (a b : Assignment) → Agree old.variables a b → Satisfies a added → Satisfies b added → Agree new.variables a b
+  pub working : new.spent ≡ old.spent
 
 -- A call extends the circuit by at most so many variables and clauses, and in each model what it says holds.
 pub record Makes (old new : Circuit) (variables clauses : ℕ) (Says : Assignment → Type 0) : Type 0 where

@@ -196,6 +196,41 @@ impl Builder {
         Ok(gate)
     }
 
+    /// A choice that is none of its operands. Where a side is a constant, it is a conjunction.
+    #[tactic(auto, using(crate::proofs::Lists::negated_below))]
+    fn open_choice(&mut self, test: Lit, yes: Lit, no: Lit) -> Result<Lit, Memory>
+        requires test { IsLit self.old test }
+        requires yes { IsLit self.old yes }
+        requires no { IsLit self.old no }
+        requires room { self.old.variables + 1 < 2147483648 }
+        ensures lit { IfOk result (IsLit self.new) }
+        ensures more { OnOk result (self.old.variables ≤ self.new.variables) }
+        ensures most { OnOk result (self.new.variables ≤ self.old.variables + 1) }
+        ensures made { IfOk result (λ lit. Makes self.old self.new 1 6 (λ a. value a lit ≡ choice (value a test) (value a yes) (value a no))) }
+        ensures working { OnOk result (self.new.spent ≡ false) }
+        ensures err { OnErr result (self.new.spent ≡ true) }
+        ensures stays_spent { self.old.spent ≡ true → IsErr result }
+    {
+        let _variables = self.variables;
+        if no.0 == 1 {
+            let both = self.and_gate(test, yes)?;
+            return Ok(both);
+        }
+        if yes.0 == 1 {
+            let both = self.and_gate(test.negated(), no)?;
+            return Ok(both);
+        }
+        if no.0 == 0 {
+            let against = self.and_gate(test, yes.negated())?;
+            return Ok(against.negated());
+        }
+        if yes.0 == 0 {
+            let neither = self.and_gate(test.negated(), no.negated())?;
+            return Ok(neither.negated());
+        }
+        self.new_choice(test, yes, no)
+    }
+
     /// `yes` where the test is true, and `no` else: at most one variable and six clauses.
     pub fn choose_gate(&mut self, test: Lit, yes: Lit, no: Lit) -> Result<Lit, Memory>
         requires test { IsLit self.old test }
@@ -215,7 +250,7 @@ impl Builder {
         }
         match folded_choice(test, yes, no) {
             Some(lit) => Ok(lit),
-            None => self.new_choice(test, yes, no),
+            None => self.open_choice(test, yes, no),
         }
     }
 

@@ -5,16 +5,19 @@ use Rattle.lz_lazy.specs.Encoding.{whole, saved_place, flag_place, runs_next, al
 use Rattle.lz_flat.specs.Programs.{MarkedInstruction, Statement, sets, instruction, marked}
 use Rattle.lz_flat.specs.declared.program.Marked.{Marked}
 
+-- the code of a thread begins with the three statements of its first instruction
 encoded_step : (n t l : ℕ) (first : MarkedInstruction) (rest : List MarkedInstruction)
     → encoded n t l (first ∷ rest) ≡ (body n first.instr ∷ flagged n (sets (whole (saved_place n t)) (following l first.instr)) ∷ always (sets (whole (flag_place n)) (runs_next n t (suc l) rest)) ∷ []) ++ encoded n t (suc l) rest
 unfolding encoded
 encoded_step n t l first rest = refl
 
+-- the three statements of an instruction of the code
 abbrev three : ℕ → ℕ → ℕ → Marked → List Marked → List Statement
 three n t l first rest =
     body n (instruction first.instr) ∷ flagged n (sets (whole (saved_place n t)) (following l (instruction first.instr)))
     ∷ always (sets (whole (flag_place n)) (runs_next n t (suc l) (map marked rest))) ∷ []
 
+-- a turn that adds the three statements of the next instruction keeps what is left
 pub one_turn : (n t l : ℕ) (code : List Marked) (first : Marked) (before after all : List Statement) → l < length code → first ≡ get_or code l first
     → before ++ encoded n t l (map marked (drop l code)) ≡ all
     → after ≡ before ++ body n (instruction first.instr) ∷ flagged n (sets (whole (saved_place n t)) (following l (instruction first.instr)))
@@ -35,6 +38,7 @@ one_turn n t l code first before after all lt at old new =
     subst (λ (k : ℕ). after ++ encoded n t k (map marked left) ≡ all) next
     (subst (λ (x : List Statement). x ++ encoded n t (suc l) (map marked left) ≡ all) (sym now) behind)
 
+-- at the end nothing is left
 pub no_more : (n t l : ℕ) (code : List Marked) (before all : List Statement) → length code ≤ l
     → before ++ encoded n t l (map marked (drop l code)) ≡ all → before ≡ all
 unfolding encoded

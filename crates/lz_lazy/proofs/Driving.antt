@@ -22,20 +22,24 @@ use Rattle.lz_lazy.proofs.Simulation.{taken, constant_is, sets_did, third, fate_
 
 -- ---- one list of statements after another
 
+-- what comes behind statements that stop or fail is not run
 abbrev pub fate_then : Fate → (List ℕ → Fate) → Fate
 fate_then (still memory) next = next memory
 fate_then stops next = stops
 fate_then fails next = fails
 
+-- behind an instruction, then behind the rest
 then_did : (d : Did) (f g : List ℕ → Fate) (next : List ℕ → Fate) → ((m : List ℕ) → f m ≡ fate_then (g m) next) → fate_behind d f ≡ fate_then (fate_behind d g) next
 then_did (moved over memory) f g next h = h memory
 then_did blocked f g next h = refl
 then_did (broke kind line) f g next h = refl
 
+-- so behind either of two
 then_cond : (b : Bool) (f g f' g' : Fate) (next : List ℕ → Fate) → f ≡ fate_then g next → f' ≡ fate_then g' next → cond b f f' ≡ fate_then (cond b g g') next
 then_cond true f g f' g' next h k = h
 then_cond false f g f' g' next h k = k
 
+-- statements behind others run from where those lead
 pub straight_append : (input : ℕ → ℕ) (i : ℕ) (xs ys : List Statement) (memory : List ℕ)
     → straight input i (xs ++ ys) memory ≡ fate_then (straight input i xs memory) (straight input (i + length xs) ys)
 unfolding straight
@@ -50,15 +54,18 @@ straight_append input i (x ∷ xs) ys memory =
 
 -- ---- the head of a block
 
+-- the nine statements that do nothing do nothing
 idles : (input : ℕ → ℕ) (o : ℕ) (rest : List Statement) (memory : List ℕ)
     → straight input o (idle ∷ idle ∷ idle ∷ idle ∷ idle ∷ idle ∷ idle ∷ idle ∷ idle ∷ rest) memory ≡ straight input (suc (suc (suc (suc (suc (suc (suc (suc (suc o))))))))) rest memory
 unfolding straight value
 idles input o rest memory = refl
 
+-- the guess takes its input
 takes_did : (n : ℕ) (input : ℕ) (memory : List ℕ) → did (takes (whole (guess_place n))) input memory ≡ moved 0 (put (whole (guess_place n)) input memory)
 unfolding did
 takes_did n input memory = refl
 
+-- the clamp leaves a guess that compares with each place as before
 clamps : (input : ℕ → ℕ) (o n mask : ℕ) (rest : List Statement) (words : List ℕ) (guess flag : ℕ) (places : List ℕ) → length words ≡ n → IsMask mask
     → straight input o (always (sets (whole (guess_place n)) (clamp n mask)) ∷ rest) (laid words guess flag places) ≡ straight input (suc o) rest (laid words (clamped guess mask) flag places)
 clamps input o n mask rest words guess flag places long is =
@@ -73,6 +80,7 @@ clamps input o n mask rest words guess flag places long is =
 abbrev pub kept_guess : (ℕ → ℕ) → ℕ → List MarkedInstruction → ℕ
 kept_guess input o code = clamped (input o) (mask_of (length code))
 
+-- the head of a block sets the guess and the flag, and its code follows
 head_then : (input : ℕ → ℕ) (o n thread : ℕ) (code : List MarkedInstruction) (rest : List Statement) (words : List ℕ) (guess flag : ℕ) (places : List ℕ) → length words ≡ n
     → straight input o (head n thread code ++ rest) (laid words guess flag places)
     ≡ straight input (o + (12 + 3 * 0)) rest (laid words (kept_guess input o code) (ready_next (kept_guess input o code) (slice_index places thread) 0 code) places)
@@ -86,6 +94,7 @@ head_then input o n thread code rest words guess flag places long =
     ∙ third input (suc (suc (suc (suc (suc (suc (suc (suc (suc (suc (suc o))))))))))) n thread 0 code rest words kept flag places long
     ∙ ap (λ (k : ℕ). straight input k rest (laid words kept (ready_next kept (slice_index places thread) 0 code) places)) at)
 
+-- each instruction has three statements
 pub length_encoded : (n thread l : ℕ) (code : List MarkedInstruction) → length (encoded n thread l code) ≡ 3 * length code
 unfolding encoded
 length_encoded n thread l [] = refl
@@ -93,17 +102,20 @@ length_encoded n thread l (first ∷ rest) = let h = length_encoded n thread (su
 
 -- ---- what a pass keeps
 
+-- where a step or a block leads, the place is visible or the end and the memory has its length
 abbrev pub WentWell : ℕ → List MarkedInstruction → Ran → Type 0
 WentWell n code (went place memory) = (length memory ≡ n) × BeginsVisible (drop place code)
 WentWell n code held = ⊤
 WentWell n code (breaks kind line) = ⊤
 WentWell n code ended = ⊤
 
+-- behind an instruction all is well where each way on is
 well_behind : (n : ℕ) (code : List MarkedInstruction) (d : Did) (f : ℕ → List ℕ → Ran) → Keeps n d → ((over : ℕ) (m : List ℕ) → length m ≡ n → WentWell n code (f over m)) → WentWell n code (behind d f)
 well_behind n code (moved over memory) f keeps h = h over memory keeps
 well_behind n code blocked f keeps h = tt
 well_behind n code (broke kind line) f keeps h = tt
 
+-- so where the walk may stop here
 well_cond : (n : ℕ) (code : List MarkedInstruction) (l : ℕ) (first : MarkedInstruction) (rest : List MarkedInstruction) (memory : List ℕ) (visible below : Bool) (r : Ran)
     → first.visible ≡ visible → drop l code ≡ first ∷ rest → length memory ≡ n → WentWell n code r → WentWell n code (cond (visible && below) (went l memory) r)
 well_cond n code l first rest memory true true r v e long h = (long, begins first rest (drop l code) e v)
@@ -111,6 +123,7 @@ well_cond n code l first rest memory true false r v e long h = h
 well_cond n code l first rest memory false true r v e long h = h
 well_cond n code l first rest memory false false r v e long h = h
 
+-- a pass over the code ends well
 pub pass_well : (n guess : ℕ) (input : ℕ → ℕ) (code part : List MarkedInstruction) (l over : ℕ) (memory : List ℕ) → drop l code ≡ part → length memory ≡ n → WentWell n code (pass guess input l part over memory)
 unfolding pass
 pass_well n guess input code [] l over memory e long = (long, begins_none (drop (l + over) code) (drop-none code l over e))
@@ -122,11 +135,13 @@ pass_well n guess input code (first ∷ rest) l zero memory e long =
 
 -- ---- a block
 
+-- a place set to itself changes nothing
 set_own : (places : List ℕ) (thread : ℕ) → slice_set places thread (slice_index places thread) ≡ places
 set_own [] thread = refl
 set_own (x ∷ xs) zero = refl
 set_own (x ∷ xs) (suc thread) = ap (λ (t : List ℕ). x ∷ t) (set_own xs thread)
 
+-- a block of statements is a pass over the code of its thread
 pub block : (input : ℕ → ℕ) (o n thread : ℕ) (code : List MarkedInstruction) (words : List ℕ) (guess flag : ℕ) (places : List ℕ)
     → length words ≡ n → thread < length places → IsCodeOf n code → length code < value_bound → BeginsVisible (drop (slice_index places thread) code)
     → straight input o (head n thread code ++ encoded n thread 0 code) (laid words guess flag places)
@@ -148,11 +163,13 @@ block input o n thread code words guess flag places long lt is short begin =
 
 -- ---- all blocks
 
+-- whether statements fail
 abbrev pub failing : Fate → Bool
 failing (still memory) = false
 failing stops = false
 failing fails = true
 
+-- whether a course breaks
 abbrev pub breaking : Course → Bool
 breaking (going places memory) = false
 breaking stuck = false
@@ -162,6 +179,7 @@ breaking (broken kind line) = true
 abbrev pub AllStand : FlatProgram → List ℕ → Type 0
 AllStand flat places = (thread : ℕ) → BeginsVisible (drop (slice_index places thread) (code_of flat thread))
 
+-- each thread still stands at a visible instruction or the end where one comes to such a place
 pub stand_after : (flat : FlatProgram) (places : List ℕ) (thread place : ℕ) → thread < length places → AllStand flat places → BeginsVisible (drop place (code_of flat thread)) → AllStand flat (slice_set places thread place)
 stand_after flat places thread place lt all here other = decide (eqb other thread) refl
   where
@@ -172,9 +190,11 @@ stand_after flat places thread place lt all here other = decide (eqb other threa
         (rw (get_or-set_same places thread place 0 lt) here)
     decide false e = rw (get_or-set_other places thread other place 0 (eqb-false other thread e)) (all other)
 
+-- each is one of so many threads
 abbrev pub AreThreads : ℕ → List ℕ → Type 0
 AreThreads threads run = AllByRecursion (λ thread. thread < threads) run
 
+-- behind a block come the others, from where it leads
 next_block : (input : ℕ → ℕ) (flat : FlatProgram) (o n thread : ℕ) (rest : List ℕ) (places : List ℕ) (r : Ran) → thread < length places → AllStand flat places → WentWell n (code_of flat thread) r
     → ((guess flag : ℕ) (ps m : List ℕ) → length m ≡ n → length ps ≡ length places → AllStand flat ps
     → failing (straight input (o + block_length (code_of flat thread)) (encoded_blocks flat rest) (laid m guess flag ps)) ≡ breaking (driven flat input (o + block_length (code_of flat thread)) rest ps m))
@@ -186,6 +206,7 @@ next_block input flat o n thread rest places held lt all well later = refl
 next_block input flat o n thread rest places (breaks kind line) lt all well later = refl
 next_block input flat o n thread rest places ended lt all well later = refl
 
+-- the statements of blocks fail exactly where the drive through them breaks
 pub driving : (input : ℕ → ℕ) (flat : FlatProgram) (bs : List ℕ) (o guess flag : ℕ) (places words : List ℕ) → length words ≡ length flat.first → AreThreads (length places) bs → AllStand flat places
     → ((thread : ℕ) → IsCodeOf (length flat.first) (code_of flat thread)) → ((thread : ℕ) → length (code_of flat thread) < value_bound)
     → failing (straight input o (encoded_blocks flat bs) (laid words guess flag places)) ≡ breaking (driven flat input o bs places words)
@@ -205,43 +226,52 @@ driving input flat (thread ∷ rest) o guess flag places words long are all code
 
 -- ---- the whole program
 
+-- what holds of each code and of none holds of any thread's
 pub all_at : (P : List MarkedInstruction → Type 0) (xs : List (List MarkedInstruction)) (k : ℕ) → AllByRecursion P xs → P [] → P (slice_index_or xs k [])
 all_at P [] zero all none = none
 all_at P [] (suc k) all none = none
 all_at P (x ∷ xs) zero all none = all.0
 all_at P (x ∷ xs) (suc k) all none = all_at P xs k all.1 none
 
+-- what holds of each of two lists holds of both together
 all_append : (P : ℕ → Type 0) (xs ys : List ℕ) → AllByRecursion P xs → AllByRecursion P ys → AllByRecursion P (xs ++ ys)
 all_append P [] ys h k = k
 all_append P (x ∷ xs) ys h k = (h.0, all_append P xs ys h.1 k)
 
+-- the threads of a round are threads of the program
 threads_small : (thread more threads : ℕ) → thread + more ≤ threads → AreThreads threads (threads_from thread more)
 threads_small thread zero threads h = tt
 threads_small thread (suc more) threads h = (omega arith, threads_small (suc thread) more threads (omega arith))
 
+-- so those of all rounds
 pub blocks_small : (rounds threads : ℕ) → AreThreads threads (blocks rounds threads)
 blocks_small zero threads = tt
 blocks_small (suc rounds) threads = all_append (λ t. t < threads) (threads_from 0 threads) (blocks rounds threads) (threads_small 0 threads threads (omega arith)) (blocks_small rounds threads)
 
+-- among zeros each is 0
 pub zeros : (n k : ℕ) → slice_index (replicate n 0) k ≡ 0
 zeros zero zero = refl
 zeros zero (suc k) = refl
 zeros (suc n) zero = refl
 zeros (suc n) (suc k) = zeros n k
 
+-- so many zeros are so many
 pub length_zeros : (n : ℕ) → length {A = ℕ} (replicate n 0) ≡ n
 length_zeros zero = refl
 length_zeros (suc n) = ap suc (length_zeros n)
 
+-- at the opening each thread stands at a visible instruction or the end
 pub opening_stands : (flat : FlatProgram) → IsWellMarked flat → AllStand flat (opening flat)
 opening_stands flat well thread =
     rw (zeros (length flat.threads) thread) (all_at BeginsVisible flat.threads thread well.begins tt)
 
+-- where statements fail as a course breaks, and they fail, the course breaks
 to_break : (f : Fate) (c : Course) → failing f ≡ breaking c → f ≡ fails → (kind : BreakKind) × (line : ℕ) × (c ≡ broken kind line)
 to_break f (going places memory) e h = let g : failing f ≡ true = ap failing h in absurd cc
 to_break f stuck e h = let g : failing f ≡ true = ap failing h in absurd cc
 to_break f (broken kind line) e h = (kind, line, refl)
 
+-- where the course breaks, they fail
 of_break : (f : Fate) (c : Course) (kind : BreakKind) (line : ℕ) → failing f ≡ breaking c → c ≡ broken kind line → f ≡ fails
 of_break (still memory) c kind line e h = let g : breaking c ≡ true = ap breaking h in absurd cc
 of_break stops c kind line e h = let g : breaking c ≡ true = ap breaking h in absurd cc

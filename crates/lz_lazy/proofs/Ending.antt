@@ -14,6 +14,7 @@ use Rattle.lz_lazy.proofs.Driving.{length_zeros}
 use Rattle.lz_lazy.proofs.Sizes.{size}
 use Rattle.lz_flat.proofs.WeightLemmas.{code_length}
 
+-- what holds of the straight program by definition holds of the one that was made
 pub carry : (P : StraightProgram → Type 0) (flat : FlatProgram) (rounds : ℕ) (list : List Statement) (first : List ℕ) → list ≡ encoding flat rounds → first ≡ encoded_first flat
     → P (sequential flat rounds) → P (record { list = list; first = first })
 carry P flat rounds list first list_is first_is h =
@@ -23,18 +24,22 @@ carry P flat rounds list first list_is first_is h =
 
 -- ---- lengths
 
+-- code has as many instructions as definitions read
 length_marked : (xs : List Marked) → length (map (λ c. marked c) xs) ≡ length xs
 length_marked [] = refl
 length_marked (x ∷ xs) = ap suc (length_marked xs)
 
+-- a list has as many statements as definitions read
 length_statements : (xs : List Guarded) → length (map statement xs) ≡ length xs
 length_statements [] = refl
 length_statements (x ∷ xs) = ap suc (length_statements xs)
 
+-- a program has as many threads as definitions read
 length_threads : (xs : List (List Marked)) → length (map (λ c. map marked c) xs) ≡ length xs
 length_threads [] = refl
 length_threads (x ∷ xs) = ap suc (length_threads xs)
 
+-- the length of what was made, by the numbers of instructions and threads
 pub sized : (flat : Flat) (rounds : ℕ) (list : List Guarded) → map statement list ≡ encoding (flat_program flat) rounds
     → length list ≡ 3 * rounds * (instructions (flat_program flat).threads + 4 * length flat.threads)
 sized flat rounds list is =
@@ -45,23 +50,27 @@ sized flat rounds list is =
 light : (rounds weight : ℕ) → 1 ≤ rounds → rounds * weight ≤ most_weight → weight ≤ most_weight
 light rounds weight some h = let k : 1 * weight ≤ rounds * weight = mul-le-mul_right weight some in omega (arith, k, h)
 
+-- the code of a thread is no longer than the threads weigh
 code_light : (threads : List (List Marked)) (k : ℕ) (d : List Marked) → k < length threads → length (get_or threads k d) ≤ threads_weight (map (λ c. map marked c) threads)
 code_light [] k d lt = absurd (let z : ⊥ = omega arith in z)
 code_light (x ∷ xs) zero d lt = let h = code_length (map marked x) in let e = length_marked x in omega (arith, h, e)
 code_light (x ∷ xs) (suc k) d lt = let h = code_light xs k d (omega arith) in omega (arith, h)
 
+-- each code is short where so many rounds are light
 pub all_short : (flat : Flat) (rounds : ℕ) → 1 ≤ rounds → rounds * flat_weight (flat_program flat) ≤ most_weight → All (λ code. length code + 1 < 4294967296) flat.threads
 all_short flat rounds some h k d lt =
     let a = code_light flat.threads k d lt in
     let b = light rounds (flat_weight (flat_program flat)) some h in
     omega (arith, a, b)
 
+-- so the code of a thread of the definition's program
 code_of_light : (threads : List (List MarkedInstruction)) (t : ℕ) → length (slice_index_or threads t []) ≤ threads_weight threads
 code_of_light [] zero = omega arith
 code_of_light [] (suc t) = omega arith
 code_of_light (x ∷ xs) zero = let h = code_length x in omega (arith, h)
 code_of_light (x ∷ xs) (suc t) = let h = code_of_light xs t in omega (arith, h)
 
+-- each thread has fewer than 2^32 instructions where so many rounds are light
 pub short : (flat : FlatProgram) (rounds : ℕ) → 1 ≤ rounds → rounds * flat_weight flat ≤ most_weight → (thread : ℕ) → length (code_of flat thread) < value_bound
 short flat rounds some h thread =
     let a = code_of_light flat.threads thread in

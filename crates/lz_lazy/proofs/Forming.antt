@@ -10,6 +10,7 @@ use Rattle.lz_lazy.specs.Encoding.{whole, saved_place, flag_place, stands_at, ru
 use Rattle.lz_lazy.proofs.Masks.{mask_small}
 use Rattle.lz_lazy.proofs.Driving.{all_at, blocks_small, length_zeros, AreThreads}
 
+-- an expression over n words is one over more
 wider : (n m : ℕ) (e : Expression) → n ≤ m → IsExpressionOf n e → IsExpressionOf m e
 wider n m (constant v) le is = is
 wider n m (word place) le is = omega arith
@@ -19,20 +20,25 @@ wider n m (convert from to of) le is = wider n m of le is
 wider n m (binary op kind left right) le is = (wider n m left le is.0, wider n m right le is.1)
 wider n m (choose test chosen other) le is = (wider n m test le is.0, wider n m chosen le is.1, wider n m other le is.2)
 
+-- a location among n words is one among more
 wider_spot : (n m : ℕ) (to : Location) → n ≤ m → IsLocationOf n to → IsLocationOf m to
 wider_spot n m to le is = ((λ k h. let lt = is.0 k h in omega arith), wider n m to.index le is.1)
 
+-- the one word at a place within is a location
 whole_of : (n place : ℕ) → place < n → IsLocationOf n (whole place)
 whole_of n place lt = ((λ k h. omega arith), omega arith)
 
+-- whether a thread stands at a place is an expression over the words and those behind them
 stands_of : (n m thread l : ℕ) (visible : Bool) → saved_place n thread < m → l < value_bound → IsExpressionOf m (stands_at n thread l visible)
 stands_of n m thread l true lt small = ((lt, small), (small, (let z : n < m = omega arith in z)))
 stands_of n m thread l false lt small = (lt, small)
 
+-- so is whether the next instruction runs
 next_of : (n m thread l : ℕ) (part : List MarkedInstruction) → saved_place n thread < m → l < value_bound → IsExpressionOf m (runs_next n thread l part)
 next_of n m thread l [] lt small = omega arith
 next_of n m thread l (first ∷ rest) lt small = stands_of n m thread l first.visible lt small
 
+-- the instruction itself is a statement over them
 body_of : (n m : ℕ) (i : Instruction) → n + 1 < m → IsInstructionOf n i → IsStatementOf m (body n i)
 body_of n m (sets to of) lt is = (lt, (wider_spot n m to (omega arith) is.0, wider n m of (omega arith) is.1), tt)
 body_of n m (takes to) lt is = (lt, wider_spot n m to (omega arith) is, tt)
@@ -40,6 +46,7 @@ body_of n m (assumes test) lt is = (lt, wider n m test (omega arith) is, tt)
 body_of n m (checks test kind line) lt is = (lt, wider n m test (omega arith) is, tt)
 body_of n m (skips test by) lt is = (omega arith, omega arith, tt)
 
+-- the place behind an instruction is an expression over them
 following_of : (n m l left : ℕ) (i : Instruction) → n ≤ m → l + left < value_bound → 1 ≤ left → IsInstructionOf n i → IsForward left i → IsExpressionOf m (following l i)
 following_of n m l left (sets to of) le small some is go = let z : suc l < value_bound = omega arith in z
 following_of n m l left (takes to) le small some is go = let z : suc l < value_bound = omega arith in z
@@ -48,6 +55,7 @@ following_of n m l left (checks test kind line) le small some is go = let z : su
 following_of n m l left (skips test by) le small some is go =
     (wider n m test le is, (let g = go.1 in let z : l + by < value_bound = omega arith in z), (let z : suc l < value_bound = omega arith in z))
 
+-- the code of a thread is statements over them
 encoded_of : (n m thread l : ℕ) (part : List MarkedInstruction) → saved_place n thread < m → l + length part < value_bound → IsCodeOf n part → AllByRecursion (IsStatementOf m) (encoded n thread l part)
 unfolding encoded
 encoded_of n m thread l [] lt small is = tt
@@ -63,16 +71,20 @@ encoded_of n m thread l (first ∷ rest) lt small is =
       ),
     )
 
+-- two lists of statements are statements together
 all_both : (m : ℕ) (xs ys : List Statement) → AllByRecursion (IsStatementOf m) xs → AllByRecursion (IsStatementOf m) ys → AllByRecursion (IsStatementOf m) (xs ++ ys)
 all_both m [] ys h k = k
 all_both m (x ∷ xs) ys h k = (h.0, all_both m xs ys h.1 k)
 
+-- the constants 0 and 1 are words
 idle_of : (m : ℕ) → (0 < value_bound) × (1 < value_bound) × Unit {0}
 idle_of m = (omega arith, omega arith, tt)
 
+-- the clamp is an expression over them
 clamp_of : (n m mask : ℕ) → n < m → mask < value_bound → IsExpressionOf m (clamp n mask)
 clamp_of n m mask lt small = ((lt, small), (lt, small), small)
 
+-- the head of a block is statements over them
 head_of : (n m thread : ℕ) (code : List MarkedInstruction) → saved_place n thread < m → AllByRecursion (IsStatementOf m) (head n thread code)
 head_of n m thread code lt =
     let one : 1 < value_bound = omega arith in
@@ -112,6 +124,7 @@ head_of n m thread code lt =
       ),
     )
 
+-- blocks are statements over them
 blocks_of : (flat : FlatProgram) (m threads : ℕ) (bs : List ℕ) → length flat.first + (2 + threads) ≤ m → AreThreads threads bs
     → ((thread : ℕ) → IsCodeOf (length flat.first) (code_of flat thread)) → ((thread : ℕ) → length (code_of flat thread) < value_bound) → AllByRecursion (IsStatementOf m) (encoded_blocks flat bs)
 unfolding encoded_blocks
@@ -124,14 +137,17 @@ blocks_of flat m threads (thread ∷ rest) le are codes short =
     (all_both m (head n thread code) (encoded n thread 0 code) (head_of n m thread code lt) (encoded_of n m thread 0 code lt (let s = short thread in omega arith) (codes thread)))
     (blocks_of flat m threads rest le are.1 codes short)
 
+-- two lists of words are words together
 words_both : (xs ys : List ℕ) → AllByRecursion (λ v. v < value_bound) xs → AllByRecursion (λ v. v < value_bound) ys → AllByRecursion (λ v. v < value_bound) (xs ++ ys)
 words_both [] ys h k = k
 words_both (x ∷ xs) ys h k = (h.0, words_both xs ys h.1 k)
 
+-- zeros are words
 words_zero : (n : ℕ) → AllByRecursion (λ v. v < value_bound) (replicate n 0)
 words_zero zero = tt
 words_zero (suc n) = ((let z : 0 < value_bound = omega arith in z), words_zero n)
 
+-- the straight program is well formed
 pub well_formed : (flat : FlatProgram) (rounds : ℕ) → IsWellMarked flat → ((thread : ℕ) → length (code_of flat thread) < value_bound) → IsWellFormed (sequential flat rounds)
 well_formed flat rounds well short =
     let size : length flat.first + (2 + length flat.threads) ≤ length (encoded_first flat) =

@@ -4,6 +4,7 @@ use Rattle.std.proofs.lemmas.List.{drop_all}
 use Rattle.lz_flat.specs.FlatRuns.{Ran, went, held, breaks, ended, step_from, step, steps_on, below}
 use Rattle.lz_flat.specs.Programs.{MarkedInstruction}
 
+-- the test whether a number is below another, where it is
 pub lt_true : (a b : ℕ) → a < b → nat_lt a b ≡ true
 lt_true a b h = decide (nat_lt a b) refl
   where
@@ -11,6 +12,7 @@ lt_true a b h = decide (nat_lt a b) refl
     decide true e = e
     decide false e = absurd (let n : a < b → ⊥ = grind arith in n h)
 
+-- and where it is not
 pub lt_false : (a b : ℕ) → b ≤ a → nat_lt a b ≡ false
 lt_false a b h = decide (nat_lt a b) refl
   where
@@ -18,16 +20,19 @@ lt_false a b h = decide (nat_lt a b) refl
     decide true e = absurd (let n : a < b = grind arith in let z : ⊥ = omega arith in z)
     decide false e = e
 
+-- behind a step come the same steps where each way on has the same
 pub steps_same : (place : ℕ) (memory : List ℕ) (r : Ran) (f g : ℕ → List ℕ → Ran) → ((p : ℕ) (m : List ℕ) → f p m ≡ g p m) → steps_on place memory r f ≡ steps_on place memory r g
 steps_same place memory (went p m) f g h = h p m
 steps_same place memory held f g h = refl
 steps_same place memory (breaks kind line) f g h = refl
 steps_same place memory ended f g h = refl
 
+-- a step from the end says that the thread has ended
 step_ended : (input : ℕ → ℕ) (code : List MarkedInstruction) (place : ℕ) (memory : List ℕ) → length code ≤ place → step input code place memory ≡ ended
 unfolding step
 step_ended input code place memory h = ap (λ (part : List MarkedInstruction). step_from input place part memory) (drop_all place code h)
 
+-- guesses that compare alike with each place of the code drive the same steps
 pub same_below : (most guess other : ℕ) (input : ℕ → ℕ) (code : List MarkedInstruction) (place : ℕ) (memory : List ℕ) → ((p : ℕ) → p < length code → nat_lt p other ≡ nat_lt p guess)
     → below most other input code place memory ≡ below most guess input code place memory
 unfolding below
@@ -54,9 +59,11 @@ same_below (suc most) guess other input code place memory same =
 
 -- ---- a guess, or a bound where the guess is above it
 
+-- a guess, or the size of the code where it is above that
 abbrev pub clamped : ℕ → ℕ → ℕ
 clamped guess bound = cond (nat_le guess bound) guess bound
 
+-- a clamped guess compares with each place of the code as before
 pub clamped_lt : (place guess bound : ℕ) → place < bound → nat_lt place (clamped guess bound) ≡ nat_lt place guess
 clamped_lt place guess bound h = decide (nat_le guess bound) refl
   where

@@ -16,6 +16,7 @@ use Rattle.lz_flat.proofs.RoundsLemmas.{Fits, nothing, stay, next}
 
 -- ---- the first step of a pass
 
+-- a pass below the guess begins with a step
 pub pass_steps : (guess : ℕ) (input : ℕ → ℕ) (code part : List MarkedInstruction) (l : ℕ) (memory : List ℕ) → drop l code ≡ part → BeginsVisible part → nat_lt l guess ≡ true
     → (step_from input l part memory ≡ ended → ⊥) → pass guess input l part 0 memory ≡ carried guess input code (step_from input l part memory)
 unfolding pass
@@ -24,6 +25,7 @@ pass_steps guess input code (first ∷ rest) l memory e begin lt real =
     rw (begin, lt) (behind_carried guess input code (did first.instr (input l) memory) (pass guess input (suc l) rest) (onward input (suc l) rest)
     (λ over m. through guess input code rest (suc l) over m (drop-next code l first rest e)))
 
+-- a pass at the guess goes nowhere
 pub pass_stops : (guess : ℕ) (input : ℕ → ℕ) (part : List MarkedInstruction) (l : ℕ) (memory : List ℕ) → BeginsVisible part → nat_lt l guess ≡ false
     → pass guess input l part 0 memory ≡ went l memory
 unfolding pass
@@ -35,6 +37,7 @@ at_once : (guess : ℕ) (input : ℕ → ℕ) (code : List MarkedInstruction) (p
     → below (length code) guess input code place memory ≡ pass guess input place (drop place code) 0 memory
 at_once guess input code place memory begin = below_is_pass (length code) guess input code place memory begin (omega arith)
 
+-- where a step leads, the pass goes on from there
 stepped_pass : (guess : ℕ) (input : ℕ → ℕ) (code : List MarkedInstruction) (place : ℕ) (memory : List ℕ) (r : Ran) → BeginsVisible (drop place code) → nat_lt place guess ≡ true
     → step input code place memory ≡ r → (r ≡ ended → ⊥) → pass guess input place (drop place code) 0 memory ≡ carried guess input code r
 unfolding step
@@ -45,6 +48,7 @@ stepped_pass guess input code place memory r begin lt e real =
 abbrev pub widened : ℕ → ℕ → ℕ → ℕ
 widened place next_place guess = cond (nat_lt place guess) guess next_place
 
+-- one step more is a greater guess
 pub one_step_more : (input : ℕ → ℕ) (code : List MarkedInstruction) (place : ℕ) (memory : List ℕ) (next_place : ℕ) (next_memory : List ℕ) (guess : ℕ)
     → BeginsVisible (drop place code) → step input code place memory ≡ went next_place next_memory
     → below (length code) (widened place next_place guess) input code place memory ≡ below (length code) guess input code next_place next_memory
@@ -68,11 +72,13 @@ one_step_more input code place memory next_place next_memory guess begin e =
         high : nat_lt place guess ≡ false → guess ≤ next_place
         high lt = let f = lands.forward in let g : guess ≤ place = grind arith in omega arith
 
+-- a step that breaks is a guess one above its place
 pub last_step : (input : ℕ → ℕ) (code : List MarkedInstruction) (place : ℕ) (memory : List ℕ) (kind : BreakKind) (line : ℕ) → BeginsVisible (drop place code) → step input code place memory ≡ breaks kind line
     → below (length code) (suc place) input code place memory ≡ breaks kind line
 last_step input code place memory kind line begin e =
     at_once (suc place) input code place memory begin ∙ stepped_pass (suc place) input code place memory (breaks kind line) begin (lt_true place (suc place) (omega arith)) e (λ h. cc)
 
+-- below the guess 0 there are no steps
 no_steps : (most : ℕ) (input : ℕ → ℕ) (code : List MarkedInstruction) (place : ℕ) (memory : List ℕ) → below most 0 input code place memory ≡ went place memory
 unfolding below
 no_steps zero input code place memory = refl
@@ -80,18 +86,21 @@ no_steps (suc most) input code place memory = rw (lt_false place 0 (omega arith)
 
 -- ---- blocks with guesses, each thread with its own inputs
 
+-- the drive by a list of guesses, where each thread has inputs of its own
 unfoldable pub guided : FlatProgram → (ℕ → ℕ → ℕ) → List ℕ → List ℕ → List ℕ → List ℕ → Course
 guided flat inputs guesses [] places memory = going places memory
 guided flat inputs guesses (thread ∷ rest) places memory =
     block_behind (below (length (code_of flat thread)) (slice_index guesses 0) (inputs thread) (code_of flat thread) (slice_index places thread) memory)
     (λ place. guided flat inputs (drop 1 guesses) rest (slice_set places thread place))
 
+-- behind a block comes the same where each way on is the same
 pub block_same : (r : Ran) (f g : ℕ → List ℕ → Course) → ((place : ℕ) (m : List ℕ) → f place m ≡ g place m) → block_behind r f ≡ block_behind r g
 block_same (went place memory) f g h = h place memory
 block_same held f g h = refl
 block_same (breaks kind line) f g h = refl
 block_same ended f g h = refl
 
+-- some guesses drive a break through these blocks
 abbrev Guided : FlatProgram → (ℕ → ℕ → ℕ) → List ℕ → List ℕ → List ℕ → BreakKind → ℕ → Type 0
 Guided flat inputs bs places memory kind line = (guesses : List ℕ) × (guided flat inputs guesses bs places memory ≡ broken kind line)
 
@@ -128,6 +137,7 @@ last_block flat inputs thread bs places memory kind line all e = (
   rw (last_step (inputs thread) (code_of flat thread) (slice_index places thread) memory kind line (all thread) e) refl,
 )
 
+-- a run that begins with a step of the block's thread is guided where its rest is
 by_step : (flat : FlatProgram) (inputs : ℕ → ℕ → ℕ) (thread : ℕ) (run bs places memory : List ℕ) (kind : BreakKind) (line : ℕ) (r : Ran) → thread < length places → AllStand flat places
     → step (inputs thread) (code_of flat thread) (slice_index places thread) memory ≡ r
     → ((place : ℕ) (m : List ℕ) → AllStand flat (slice_set places thread place) → course flat inputs run (slice_set places thread place) m ≡ broken kind line → Guided flat inputs (thread ∷ bs) (slice_set places thread place) m kind line)

@@ -12,11 +12,13 @@ use Rattle.lz_lazy.proofs.Guessing.{guided, block_same}
 
 -- ---- the same inputs where instructions stand
 
+-- behind an instruction comes the same where each way on is the same
 behind_same : (d : Did) (f g : ℕ → List ℕ → Ran) → ((over : ℕ) (m : List ℕ) → f over m ≡ g over m) → behind d f ≡ behind d g
 behind_same (moved over memory) f g h = h over memory
 behind_same blocked f g h = refl
 behind_same (broke kind line) f g h = refl
 
+-- a walk reads the inputs of the places in front of it alone
 pub onward_agrees : (a b : ℕ → ℕ) (part : List MarkedInstruction) (l over : ℕ) (memory : List ℕ) → ((k : ℕ) → l ≤ k → k < l + length part → a k ≡ b k) → onward a l part over memory ≡ onward b l part over memory
 unfolding onward
 onward_agrees a b [] l over memory same = refl
@@ -26,17 +28,20 @@ onward_agrees a b (first ∷ rest) l zero memory same =
     (ap (cond first.visible (went l memory)) (behind_same (did first.instr (b l) memory) (onward a (suc l) rest) (onward b (suc l) rest)
     (λ over m. onward_agrees a b rest (suc l) over m (λ k h t. same k (omega arith) (omega arith)))))
 
+-- so a step whose instruction stands first
 step_from_agrees : (a b : ℕ → ℕ) (part : List MarkedInstruction) (l : ℕ) (memory : List ℕ) → ((k : ℕ) → l ≤ k → k < l + length part → a k ≡ b k) → step_from a l part memory ≡ step_from b l part memory
 step_from_agrees a b [] l memory same = refl
 step_from_agrees a b (first ∷ rest) l memory same =
     rw (same l (omega arith) (omega arith)) (behind_same (did first.instr (b l) memory) (onward a (suc l) rest) (onward b (suc l) rest)
     (λ over m. onward_agrees a b rest (suc l) over m (λ k h t. same k (omega arith) (omega arith))))
 
+-- so a step from a place
 pub step_agrees : (a b : ℕ → ℕ) (code : List MarkedInstruction) (place : ℕ) (memory : List ℕ) → ((k : ℕ) → place ≤ k → k < length code → a k ≡ b k) → step a code place memory ≡ step b code place memory
 unfolding step
 step_agrees a b code place memory same =
     step_from_agrees a b (drop place code) place memory (λ k h t. same k h (let e : length (drop place code) ≡ length code - place = length-drop place code in omega arith))
 
+-- so the steps below a guess
 pub below_agrees : (most guess : ℕ) (a b : ℕ → ℕ) (code : List MarkedInstruction) (place : ℕ) (memory : List ℕ) → ((k : ℕ) → k < length code → a k ≡ b k) → below most guess a code place memory ≡ below most guess b code place memory
 unfolding below
 below_agrees zero guess a b code place memory same = refl
@@ -47,15 +52,18 @@ below_agrees (suc most) guess a b code place memory same =
 
 -- ---- the inputs
 
+-- the input of a block at an offset: its guess first, then one of every three for an instruction
 abbrev pub block_input : (ℕ → ℕ) → ℕ → ℕ → ℕ → ℕ
 block_input inputs guess o i = if i == o then guess else inputs ((i - (o + 12)) / 3)
 
+-- the list of inputs of blocks with these guesses, where each thread has inputs of its own
 unfoldable pub inputs_of : FlatProgram → (ℕ → ℕ → ℕ) → List ℕ → List ℕ → ℕ → ℕ → ℕ
 inputs_of flat inputs guesses [] o i = 0
 inputs_of flat inputs guesses (thread ∷ rest) o i =
     if nat_lt i (o + block_length (code_of flat thread)) then block_input (inputs thread) (clamped (slice_index guesses 0) (length (code_of flat thread))) o i
     else inputs_of flat inputs (drop 1 guesses) rest (o + block_length (code_of flat thread)) i
 
+-- a number equals itself
 eq_self : (a : ℕ) → (a == a) ≡ true
 eq_self a = decide (a == a) refl
   where
@@ -63,6 +71,7 @@ eq_self a = decide (a == a) refl
     decide true e = e
     decide false e = absurd (eqb-false a a e refl)
 
+-- two numbers that differ are not equal
 eq_other : (a b : ℕ) → (a ≡ b → ⊥) → (a == b) ≡ false
 eq_other a b h = decide (a == b) refl
   where
@@ -70,21 +79,25 @@ eq_other a b h = decide (a == b) refl
     decide true e = absurd (h (eqb-true a b e))
     decide false e = e
 
+-- the first input of a block is its guess, clamped
 guess_in : (flat : FlatProgram) (inputs : ℕ → ℕ → ℕ) (guesses : List ℕ) (thread : ℕ) (rest : List ℕ) (o : ℕ) → inputs_of flat inputs guesses (thread ∷ rest) o o ≡ clamped (slice_index guesses 0) (length (code_of flat thread))
 unfolding inputs_of
 guess_in flat inputs guesses thread rest o = rw (lt_true o (o + block_length (code_of flat thread)) (omega arith), eq_self o) refl
 
+-- the input of an instruction is that of its thread
 source_in : (flat : FlatProgram) (inputs : ℕ → ℕ → ℕ) (guesses : List ℕ) (thread : ℕ) (rest : List ℕ) (o l : ℕ) → l < length (code_of flat thread) → source (inputs_of flat inputs guesses (thread ∷ rest) o) o l ≡ inputs thread l
 unfolding inputs_of
 source_in flat inputs guesses thread rest o l h =
     let at : (o + (12 + 3 * l) - (o + 12)) / 3 ≡ l = omega arith in
     rw (lt_true (o + (12 + 3 * l)) (o + block_length (code_of flat thread)) (omega arith), eq_other (o + (12 + 3 * l)) o (λ e. omega arith), at) refl
 
+-- behind a block come the inputs of the others
 behind_in : (flat : FlatProgram) (inputs : ℕ → ℕ → ℕ) (guesses : List ℕ) (thread : ℕ) (rest : List ℕ) (o i : ℕ) → o + block_length (code_of flat thread) ≤ i
     → inputs_of flat inputs guesses (thread ∷ rest) o i ≡ inputs_of flat inputs (drop 1 guesses) rest (o + block_length (code_of flat thread)) i
 unfolding inputs_of
 behind_in flat inputs guesses thread rest o i h = rw (lt_false i (o + block_length (code_of flat thread)) h) refl
 
+-- the drive reads the inputs from its offset on alone
 pub driven_agrees : (flat : FlatProgram) (a b : ℕ → ℕ) (bs : List ℕ) (o : ℕ) (places memory : List ℕ) → ((i : ℕ) → o ≤ i → a i ≡ b i) → driven flat a o bs places memory ≡ driven flat b o bs places memory
 unfolding driven
 driven_agrees flat a b [] o places memory same = refl
@@ -122,10 +135,12 @@ clamped_small guess size h = decide (nat_le guess size) refl
     decide true e = let g : guess ≤ size = grind arith in omega arith
     decide false e = h
 
+-- either of two words is a word
 cond_small : (b : Bool) (x y : ℕ) → x < value_bound → y < value_bound → cond b x y < value_bound
 cond_small true x y h k = h
 cond_small false x y h k = k
 
+-- each of these inputs is a word
 pub inputs_small : (flat : FlatProgram) (inputs : ℕ → ℕ → ℕ) (bs guesses : List ℕ) (o i : ℕ) → ((thread l : ℕ) → inputs thread l < value_bound) → ((thread : ℕ) → length (code_of flat thread) < value_bound)
     → inputs_of flat inputs guesses bs o i < value_bound
 unfolding inputs_of

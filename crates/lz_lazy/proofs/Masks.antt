@@ -14,9 +14,11 @@ pub record HasOnes (mask ones : ℕ) : Type 0 where
 abbrev pub IsMask : ℕ → Type 0
 IsMask mask = (ones : ℕ) × HasOnes mask ones
 
+-- a factor 2 moved from one side to the other
 regroup : (p m : ℕ) → p * (2 * m + 1 + 1) ≡ (2 * p) * (m + 1)
 regroup p m = grind arith
 
+-- a power of two is twice the one before
 power_suc : (k : ℕ) → 2 ^ suc k ≡ 2 * 2 ^ k
 power_suc k = omega arith
 
@@ -24,15 +26,19 @@ power_suc k = omega arith
 double : (more mask : ℕ) → 2 ^ more * (2 * mask + 1 + 1) ≡ 2 ^ suc more * (mask + 1)
 double more mask = regroup (2 ^ more) mask ∙ ap (λ (k : ℕ). k * (mask + 1)) (sym (power_suc more))
 
+-- twice a product is the product and itself
 twice : (p m : ℕ) → (2 * p) * (m + 1) ≡ p * (m + 1) + p * (m + 1)
 twice p m = grind arith
 
+-- a power of two times a number is half of it and half of it
 double_same : (more mask : ℕ) → 2 ^ suc more * (mask + 1) ≡ 2 ^ more * (mask + 1) + 2 ^ more * (mask + 1)
 double_same more mask = ap (λ (k : ℕ). k * (mask + 1)) (power_suc more) ∙ twice (2 ^ more) mask
 
+-- a mask doubled and raised by one has one more bit
 doubled : (mask ones : ℕ) → HasOnes mask ones → HasOnes (2 * mask + 1) (suc ones)
 doubled mask ones is = record { power = let p = is.power in omega arith }
 
+-- the mask or the next one is a mask
 next_mask : (b : Bool) (mask : ℕ) → IsMask mask → IsMask (cond b mask (2 * mask + 1))
 next_mask true mask is = is
 next_mask false mask is = (suc is.0, doubled mask is.0 is.1)
@@ -77,13 +83,16 @@ mask_from_most (suc more) mask size =
     by_test true h = let d = double_same more mask in omega (arith, h, d)
     by_test false h = let d = double more mask in omega (arith, h, d)
 
+-- what is found is a mask
 pub mask_is : (size : ℕ) → IsMask (mask_of size)
 mask_is size = mask_from_is word_bits 0 size (0, record { power = refl })
 
+-- it is the size or more
 pub mask_enough : (size : ℕ) → size < value_bound → size ≤ mask_of size
 unfolding word_bits
 mask_enough size h = mask_from_enough word_bits 0 size (let z : size < 2 ^ 32 * (0 + 1) = omega arith in z)
 
+-- it is a word
 pub mask_small : (size : ℕ) → mask_of size < value_bound
 unfolding word_bits
 mask_small size = let m = mask_from_most word_bits 0 size in let z : 2 ^ 32 * (0 + 1) ≡ value_bound = refl in omega (arith, m, z)
@@ -103,17 +112,21 @@ pub record MaskAt (size turns mask : ℕ) : Type 0 where
   pub small : mask < 2 ^ turns
   pub few : turns ≤ 32
 
+-- before the first turn the mask is 0
 pub mask_begins : (size : ℕ) → MaskAt size 0 0
 unfolding word_bits
 mask_begins size = record { same = refl; small = let z : 0 < 2 ^ 0 = omega arith in z; few = omega arith }
 
+-- a turn is one step of the definition
 mask_step : (more mask size : ℕ) → mask_from (suc more) mask size ≡ mask_from more (if nat_le size mask then mask else 2 * mask + 1) size
 unfolding mask_from
 mask_step more mask size = refl
 
+-- a power of two is twice the one before, as loops count
 power_more : (k : ℕ) → 2 ^ (k + 1) ≡ 2 * 2 ^ k
 power_more k = ap (λ (j : ℕ). 2 ^ j) (let z : k + 1 ≡ suc k = omega arith in z) ∙ power_suc k
 
+-- a turn keeps what is left
 pub mask_turns : (size turns mask after : ℕ) → MaskAt size turns mask → turns < 32 → after ≡ (if nat_le size mask then mask else 2 * mask + 1) → MaskAt size (turns + 1) after
 mask_turns size turns mask after at lt e =
     let one : 32 - turns ≡ suc (32 - (turns + 1)) = omega arith in
@@ -128,9 +141,11 @@ mask_turns size turns mask after at lt e =
     by_test true = let s = at.small in let p = power_more turns in omega (arith, s, p)
     by_test false = let s = at.small in let p = power_more turns in omega (arith, s, p)
 
+-- a greater power of two is no smaller
 power_rises : (a b : ℕ) → a ≤ b → 2 ^ a ≤ 2 ^ b
 power_rises a b h = pow-le-pow_right (let z : 0 < 2 = omega arith in z) h
 
+-- the mask is a word in each turn
 pub mask_below : (size turns mask : ℕ) → MaskAt size turns mask → mask < value_bound
 mask_below size turns mask at =
     let p : 2 ^ turns ≤ 2 ^ 32 = power_rises turns 32 at.few in
@@ -138,6 +153,7 @@ mask_below size turns mask at =
     let z : 2 ^ 32 ≡ value_bound = refl in
     omega (arith, p, s, z)
 
+-- after all turns it is the mask of the size
 pub mask_found : (size turns mask : ℕ) → MaskAt size turns mask → 32 ≤ turns → mask ≡ mask_of size
 unfolding mask_from
 mask_found size turns mask at h =

@@ -21,6 +21,7 @@ carried guess input code held = held
 carried guess input code (breaks kind line) = breaks kind line
 carried guess input code ended = ended
 
+-- behind an instruction the pass carries on where each way on does
 pub behind_carried : (guess : ℕ) (input : ℕ → ℕ) (code : List MarkedInstruction) (d : Did) (f g : ℕ → List ℕ → Ran)
     → ((over : ℕ) (memory : List ℕ) → f over memory ≡ carried guess input code (g over memory))
     → behind d f ≡ carried guess input code (behind d g)
@@ -28,11 +29,13 @@ behind_carried guess input code (moved over memory) f g same = same over memory
 behind_carried guess input code blocked f g same = refl
 behind_carried guess input code (broke kind line) f g same = refl
 
+-- at the end of the code the pass leads there
 pass_end : (guess : ℕ) (input : ℕ → ℕ) (l over : ℕ) (code : List MarkedInstruction) (memory : List ℕ) → code ≡ [] → pass guess input l code over memory ≡ went (l + over) memory
 unfolding pass
 pass_end guess input l over [] memory e = refl
 pass_end guess input l over (x ∷ xs) memory e = absurd cc
 
+-- at a visible instruction the pass goes on below the guess, and stops else
 at_visible : (guess : ℕ) (input : ℕ → ℕ) (code : List MarkedInstruction) (l : ℕ) (first : MarkedInstruction) (rest : List MarkedInstruction) (memory : List ℕ) (b : Bool)
     → first.visible ≡ b → drop l code ≡ first ∷ rest
     → ((over : ℕ) (m : List ℕ) → pass guess input (suc l) rest over m ≡ carried guess input code (onward input (suc l) rest over m))
@@ -55,6 +58,7 @@ through guess input code (first ∷ rest) l zero memory e =
 
 -- ---- the steps below the guess
 
+-- steps below the guess are what the pass makes of the step
 steps_match : (guess : ℕ) (input : ℕ → ℕ) (code : List MarkedInstruction) (place : ℕ) (memory : List ℕ) (l most : ℕ) (r : Ran)
     → (r ≡ ended → ⊥) → LandsWell code (suc l) r → length code ≤ l + suc most
     → ((p : ℕ) (m : List ℕ) → BeginsVisible (drop p code) → length code ≤ p + most → below most guess input code p m ≡ pass guess input p (drop p code) 0 m)
@@ -83,6 +87,7 @@ below_at guess input code (first ∷ rest) l most memory true lt e begin room sa
     (λ over m. through guess input code rest (suc l) over m (drop-next code l first rest e))))
 below_at guess input code (first ∷ rest) l most memory false lt e begin room same = rw (begin, lt) refl
 
+-- ONE PASS: from a visible place the steps below the guess are one pass over the code
 pub below_is_pass : (most guess : ℕ) (input : ℕ → ℕ) (code : List MarkedInstruction) (place : ℕ) (memory : List ℕ)
     → BeginsVisible (drop place code) → length code ≤ place + most
     → below most guess input code place memory ≡ pass guess input place (drop place code) 0 memory

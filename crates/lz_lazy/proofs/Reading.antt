@@ -18,27 +18,32 @@ use Rattle.lz_lazy.proofs.Inputs.{step_agrees, inputs_of, driven_guided, inputs_
 
 -- ---- places rise
 
+-- it leads to no place before this one
 abbrev Forward : ℕ → Ran → Type 0
 Forward l (went place memory) = l ≤ place
 Forward l held = ⊤
 Forward l (breaks kind line) = ⊤
 Forward l ended = ⊤
 
+-- what leads no further back than the next place leads no further back than this one
 forward_later : (l : ℕ) (r : Ran) → Forward (suc l) r → Forward l r
 forward_later l (went place memory) h = omega arith
 forward_later l held h = tt
 forward_later l (breaks kind line) h = tt
 forward_later l ended h = tt
 
+-- behind an instruction it leads forward where each way on does
 behind_forward : (l : ℕ) (d : Did) (f : ℕ → List ℕ → Ran) → ((over : ℕ) (m : List ℕ) → Forward l (f over m)) → Forward l (behind d f)
 behind_forward l (moved over memory) f h = h over memory
 behind_forward l blocked f h = tt
 behind_forward l (broke kind line) f h = tt
 
+-- so where the walk may stop here
 cond_forward : (l : ℕ) (b : Bool) (memory : List ℕ) (r : Ran) → Forward l r → Forward l (cond b (went l memory) r)
 cond_forward l true memory r h = let z : l ≤ l = omega arith in z
 cond_forward l false memory r h = h
 
+-- a walk leads forward
 onward_forward : (input : ℕ → ℕ) (part : List MarkedInstruction) (l over : ℕ) (memory : List ℕ) → Forward l (onward input l part over memory)
 unfolding onward
 onward_forward input [] l over memory = let z : l ≤ l + over = omega arith in z
@@ -48,17 +53,21 @@ onward_forward input (first ∷ rest) l zero memory =
     (forward_later l (behind (did first.instr (input l) memory) (onward input (suc l) rest))
     (behind_forward (suc l) (did first.instr (input l) memory) (onward input (suc l) rest) (λ over m. onward_forward input rest (suc l) over m)))
 
+-- so does a step whose instruction stands first
 step_from_forward : (input : ℕ → ℕ) (part : List MarkedInstruction) (l : ℕ) (memory : List ℕ) → Forward (suc l) (step_from input l part memory)
 step_from_forward input [] l memory = tt
 step_from_forward input (first ∷ rest) l memory = behind_forward (suc l) (did first.instr (input l) memory) (onward input (suc l) rest) (λ over m. onward_forward input rest (suc l) over m)
 
+-- a step leads past its place
 step_forward : (input : ℕ → ℕ) (code : List MarkedInstruction) (place : ℕ) (memory : List ℕ) → Forward (suc place) (step input code place memory)
 unfolding step
 step_forward input code place memory = step_from_forward input (drop place code) place memory
 
+-- where it leads is not before
 went_forward : (l : ℕ) (r : Ran) (place : ℕ) (memory : List ℕ) → Forward l r → r ≡ went place memory → l ≤ place
 went_forward l r place memory h e = subst (Forward l) e h
 
+-- the steps below a guess lead forward
 below_forward : (most guess : ℕ) (input : ℕ → ℕ) (code : List MarkedInstruction) (place : ℕ) (memory : List ℕ) → Forward place (below most guess input code place memory)
 unfolding below
 below_forward zero guess input code place memory = let z : place ≤ place = omega arith in z
@@ -79,6 +88,7 @@ below_forward (suc most) guess input code place memory = decide (λ p m. below_f
 
 -- ---- a step reads the inputs of the instructions that it runs alone, which are below the place where it leads
 
+-- behind an instruction a walk to a place reads the inputs before that place alone
 behind_until : (a b : ℕ → ℕ) (l : ℕ) (rest : List MarkedInstruction) (d : Did) (place : ℕ) (next_memory : List ℕ)
     → ((over : ℕ) (m : List ℕ) → onward a (suc l) rest over m ≡ went place next_memory → onward b (suc l) rest over m ≡ went place next_memory)
     → behind d (onward a (suc l) rest) ≡ went place next_memory → behind d (onward b (suc l) rest) ≡ went place next_memory
@@ -86,6 +96,7 @@ behind_until a b l rest (moved over memory) place next_memory h e = h over memor
 behind_until a b l rest blocked place next_memory h e = absurd cc
 behind_until a b l rest (broke kind line) place next_memory h e = absurd cc
 
+-- so where the instruction reads its input
 did_until : (a b : ℕ → ℕ) (l : ℕ) (first : MarkedInstruction) (rest : List MarkedInstruction) (memory : List ℕ) (place : ℕ) (next_memory : List ℕ) → ((k : ℕ) → k < place → a k ≡ b k)
     → ((over : ℕ) (m : List ℕ) → onward a (suc l) rest over m ≡ went place next_memory → onward b (suc l) rest over m ≡ went place next_memory)
     → behind (did first.instr (a l) memory) (onward a (suc l) rest) ≡ went place next_memory → behind (did first.instr (b l) memory) (onward b (suc l) rest) ≡ went place next_memory
@@ -97,6 +108,7 @@ did_until a b l first rest memory place next_memory same h e =
     behind_until a b l rest (did first.instr (b l) memory) place next_memory h
     (subst (λ (x : ℕ). behind (did first.instr x memory) (onward a (suc l) rest) ≡ went place next_memory) here e)
 
+-- so where the walk may stop here
 visible_until : (a b : ℕ → ℕ) (l : ℕ) (first : MarkedInstruction) (rest : List MarkedInstruction) (memory : List ℕ) (place : ℕ) (next_memory : List ℕ) (v : Bool) → ((k : ℕ) → k < place → a k ≡ b k)
     → ((over : ℕ) (m : List ℕ) → onward a (suc l) rest over m ≡ went place next_memory → onward b (suc l) rest over m ≡ went place next_memory)
     → cond v (went l memory) (behind (did first.instr (a l) memory) (onward a (suc l) rest)) ≡ went place next_memory
@@ -104,6 +116,7 @@ visible_until : (a b : ℕ → ℕ) (l : ℕ) (first : MarkedInstruction) (rest 
 visible_until a b l first rest memory place next_memory true same h e = e
 visible_until a b l first rest memory place next_memory false same h e = did_until a b l first rest memory place next_memory same h e
 
+-- a walk to a place reads the inputs before that place alone
 onward_until : (a b : ℕ → ℕ) (part : List MarkedInstruction) (l over : ℕ) (memory : List ℕ) (place : ℕ) (next_memory : List ℕ) → ((k : ℕ) → k < place → a k ≡ b k)
     → onward a l part over memory ≡ went place next_memory → onward b l part over memory ≡ went place next_memory
 unfolding onward
@@ -112,12 +125,14 @@ onward_until a b (first ∷ rest) l (suc over) memory place next_memory same e =
 onward_until a b (first ∷ rest) l zero memory place next_memory same e =
     visible_until a b l first rest memory place next_memory first.visible same (λ over m. onward_until a b rest (suc l) over m place next_memory same) e
 
+-- so does a step whose instruction stands first
 step_from_until : (a b : ℕ → ℕ) (part : List MarkedInstruction) (l : ℕ) (memory : List ℕ) (place : ℕ) (next_memory : List ℕ) → ((k : ℕ) → k < place → a k ≡ b k)
     → step_from a l part memory ≡ went place next_memory → step_from b l part memory ≡ went place next_memory
 step_from_until a b [] l memory place next_memory same e = e
 step_from_until a b (first ∷ rest) l memory place next_memory same e =
     did_until a b l first rest memory place next_memory same (λ over m. onward_until a b rest (suc l) over m place next_memory same) e
 
+-- so does a step from a place
 pub step_until : (a b : ℕ → ℕ) (code : List MarkedInstruction) (l : ℕ) (memory : List ℕ) (place : ℕ) (next_memory : List ℕ) → ((k : ℕ) → k < place → a k ≡ b k)
     → step a code l memory ≡ went place next_memory → step b code l memory ≡ went place next_memory
 unfolding step
@@ -125,6 +140,7 @@ step_until a b code l memory place next_memory same e = step_from_until a b (dro
 
 -- ---- a course reads the inputs from the places on alone
 
+-- behind a step the course is the same where each way on is
 course_behind_same : (flat : FlatProgram) (a b : ℕ → ℕ → ℕ) (thread : ℕ) (rest places : List ℕ) (r : Ran)
     → ((place : ℕ) (m : List ℕ) → r ≡ went place m → course flat a rest (slice_set places thread place) m ≡ course flat b rest (slice_set places thread place) m)
     → course_behind r rest (λ place. course flat a rest (slice_set places thread place)) ≡ course_behind r rest (λ place. course flat b rest (slice_set places thread place))
@@ -134,6 +150,7 @@ course_behind_same flat a b thread [] places (breaks kind line) h = refl
 course_behind_same flat a b thread (u ∷ rest) places (breaks kind line) h = refl
 course_behind_same flat a b thread rest places ended h = refl
 
+-- inputs that agree from each thread's place on agree from a later place of one thread on
 agree_after : (a b : ℕ → ℕ → ℕ) (thread place : ℕ) (places : List ℕ) → thread < length places → slice_index places thread ≤ place
     → ((u k : ℕ) → slice_index places u ≤ k → a u k ≡ b u k) → (u k : ℕ) → slice_index (slice_set places thread place) u ≤ k → a u k ≡ b u k
 agree_after a b thread place places lt up same u k h = decide (eqb u thread) refl
@@ -148,6 +165,7 @@ agree_after a b thread place places lt up same u k h = decide (eqb u thread) ref
         let at : slice_index (slice_set places thread place) u ≡ slice_index places u = get_or-set_other places thread u place 0 (eqb-false u thread e) in
         same u k (omega arith)
 
+-- a course reads the inputs from each thread's place on alone
 pub course_agrees : (flat : FlatProgram) (a b : ℕ → ℕ → ℕ) (run places memory : List ℕ) → AreThreads (length places) run → ((u k : ℕ) → slice_index places u ≤ k → a u k ≡ b u k)
     → course flat a run places memory ≡ course flat b run places memory
 unfolding course
@@ -162,6 +180,7 @@ course_agrees flat a b (thread ∷ rest) places memory are same =
 
 -- ---- a block as a part of a run
 
+-- some run that fits these blocks breaks, with these inputs
 abbrev pub HasRun : FlatProgram → (ℕ → ℕ → ℕ) → List ℕ → List ℕ → List ℕ → BreakKind → ℕ → Type 0
 HasRun flat inputs bs places memory kind line = (run : List ℕ) × Fits run bs × (course flat inputs run places memory ≡ broken kind line)
 
@@ -181,6 +200,7 @@ stays flat inputs thread bs places memory place end m kind line at e later =
     let here : slice_set places thread end ≡ places = (let q : end ≡ slice_index places thread = cc in ap (slice_set places thread) q) ∙ set-get_or places thread 0 in
     (later.0, next later.1, subst (λ (x : List ℕ). course flat inputs later.0 places x ≡ broken kind line) same_memory (subst (λ (ps : List ℕ). course flat inputs later.0 ps m ≡ broken kind line) here later.2))
 
+-- a step of the block's thread, and the others behind it
 block_step : (most guess : ℕ) (input : ℕ → ℕ) (flat : FlatProgram) (inputs : ℕ → ℕ → ℕ) (thread : ℕ) (bs places memory : List ℕ) (place end : ℕ) (m : List ℕ) (kind : BreakKind) (line : ℕ) (b : Bool) (r : Ran)
     → thread < length places → slice_index places thread ≡ place → ((k : ℕ) → k < end → input k ≡ inputs thread k)
     → step input (code_of flat thread) place memory ≡ r
@@ -197,6 +217,7 @@ block_step most guess input flat inputs thread bs places memory place end m kind
 block_step most guess input flat inputs thread bs places memory place end m kind line true ended lt at same is again e later = stays flat inputs thread bs places memory place end m kind line at e later
 block_step most guess input flat inputs thread bs places memory place end m kind line false r lt at same is again e later = stays flat inputs thread bs places memory place end m kind line at e later
 
+-- the steps of a block are steps of a run
 block_run : (most guess : ℕ) (input : ℕ → ℕ) (flat : FlatProgram) (inputs : ℕ → ℕ → ℕ) (thread : ℕ) (bs places memory : List ℕ) (place end : ℕ) (m : List ℕ) (kind : BreakKind) (line : ℕ)
     → thread < length places → slice_index places thread ≡ place → ((k : ℕ) → k < end → input k ≡ inputs thread k)
     → below most guess input (code_of flat thread) place memory ≡ went end m
@@ -229,6 +250,7 @@ break_step most guess input flat inputs thread bs places memory place kind line 
 break_step most guess input flat inputs thread bs places memory place kind line true ended at same is again e = absurd cc
 break_step most guess input flat inputs thread bs places memory place kind line false r at same is again e = absurd cc
 
+-- a block that breaks is a run that breaks
 block_break : (most guess : ℕ) (input : ℕ → ℕ) (flat : FlatProgram) (inputs : ℕ → ℕ → ℕ) (thread : ℕ) (bs places memory : List ℕ) (place : ℕ) (kind : BreakKind) (line : ℕ)
     → thread < length places → slice_index places thread ≡ place → ((k : ℕ) → input k ≡ inputs thread k)
     → below most guess input (code_of flat thread) place memory ≡ breaks kind line → HasRun flat inputs (thread ∷ bs) places memory kind line
@@ -241,11 +263,13 @@ block_break (suc most) guess input flat inputs thread bs places memory place kin
 
 -- ---- all blocks
 
+-- a run that fits blocks of threads is one of these threads
 fits_small : (threads : ℕ) {run bs : List ℕ} → Fits run bs → AreThreads threads bs → AreThreads threads run
 fits_small threads nothing are = tt
 fits_small threads (stay fits) are = (are.0, fits_small threads fits are)
 fits_small threads (next fits) are = fits_small threads fits are.1
 
+-- a run that fits the blocks and breaks, with its inputs
 pub record Found (flat : FlatProgram) (bs places memory : List ℕ) (kind : BreakKind) (line : ℕ) : Type 0 where
   pub inputs : ℕ → ℕ → ℕ
   pub small : (thread k : ℕ) → inputs thread k < value_bound
@@ -255,6 +279,7 @@ pub record Found (flat : FlatProgram) (bs places memory : List ℕ) (kind : Brea
 abbrev spliced : ℕ → ℕ → (ℕ → ℕ) → (ℕ → ℕ → ℕ) → ℕ → ℕ → ℕ
 spliced thread end now later u k = if eqb u thread then (if nat_lt k end then now k else later u k) else later u k
 
+-- inputs taken from two sources are words where both have words
 spliced_small : (thread end : ℕ) (now : ℕ → ℕ) (later : ℕ → ℕ → ℕ) → ((k : ℕ) → now k < value_bound) → ((u k : ℕ) → later u k < value_bound) → (u k : ℕ) → spliced thread end now later u k < value_bound
 spliced_small thread end now later h g u k = decide (eqb u thread) (nat_lt k end)
   where
@@ -263,6 +288,7 @@ spliced_small thread end now later h g u k = decide (eqb u thread) (nat_lt k end
     decide true false = g u k
     decide false b = g u k
 
+-- a number equals itself
 eqb_self : (a : ℕ) → eqb a a ≡ true
 eqb_self a = decide (eqb a a) refl
   where
@@ -270,9 +296,11 @@ eqb_self a = decide (eqb a a) refl
     decide true e = e
     decide false e = absurd (eqb-false a a e refl)
 
+-- up to the end of the block the thread has the inputs of the block
 spliced_now : (thread end : ℕ) (now : ℕ → ℕ) (later : ℕ → ℕ → ℕ) (k : ℕ) → k < end → now k ≡ spliced thread end now later thread k
 spliced_now thread end now later k h = rw (eqb_self thread, lt_true k end h) refl
 
+-- from there on each thread has the later ones
 spliced_later : (thread end : ℕ) (now : ℕ → ℕ) (later : ℕ → ℕ → ℕ) (places : List ℕ) → thread < length places → (u k : ℕ) → slice_index (slice_set places thread end) u ≤ k → later u k ≡ spliced thread end now later u k
 spliced_later thread end now later places lt u k h = decide (eqb u thread) refl
   where
@@ -282,6 +310,7 @@ spliced_later thread end now later places lt u k h = decide (eqb u thread) refl
         rw (lt_false k end (omega arith)) refl
     decide false e = refl
 
+-- what a block leads to, by where its steps end
 by_block : (flat : FlatProgram) (input : ℕ → ℕ) (o thread : ℕ) (bs places memory : List ℕ) (kind : BreakKind) (line : ℕ) (r : Ran)
     → ((i : ℕ) → input i < value_bound) → thread < length places → AreThreads (length places) bs
     → below (length (code_of flat thread)) (input o) (source input o) (code_of flat thread) (slice_index places thread) memory ≡ r
@@ -315,6 +344,7 @@ by_block flat input o thread bs places memory kind line (breaks k l) small lt ar
     }
 by_block flat input o thread bs places memory kind line ended small lt are is again e = absurd cc
 
+-- THE READING: where inputs drive a break through blocks, some run that fits the blocks breaks
 pub found : (flat : FlatProgram) (input : ℕ → ℕ) (kind : BreakKind) (line : ℕ) → ((i : ℕ) → input i < value_bound) → (bs : List ℕ) (o : ℕ) (places memory : List ℕ) → AreThreads (length places) bs
     → driven flat input o bs places memory ≡ broken kind line → Found flat bs places memory kind line
 unfolding driven
@@ -327,22 +357,26 @@ found flat input kind line small (thread ∷ bs) o places memory are e =
 
 -- ---- existence
 
+-- past the last thread there is no code
 no_code : (xs : List (List MarkedInstruction)) (k : ℕ) → length xs ≤ k → slice_index_or xs k [] ≡ []
 no_code [] zero h = refl
 no_code [] (suc k) h = refl
 no_code (x ∷ xs) zero h = absurd (let z : ⊥ = omega arith in z)
 no_code (x ∷ xs) (suc k) h = no_code xs k (omega arith)
 
+-- a thread without code takes no step
 none_steps : (input : ℕ → ℕ) (code : List MarkedInstruction) (place : ℕ) (memory : List ℕ) → code ≡ [] → step input code place memory ≡ ended
 unfolding step
 none_steps input code place memory e = ap (λ (part : List MarkedInstruction). step_from input place part memory) (drop_all place code (let l : length code ≡ 0 = ap length e in omega arith))
 
+-- before a break no thread has ended
 behind_real : (r : Ran) (rest : List ℕ) (onwards : ℕ → List ℕ → Course) (kind : BreakKind) (line : ℕ) → course_behind r rest onwards ≡ broken kind line → r ≡ ended → ⊥
 behind_real (went place m) rest onwards kind line e h = cc
 behind_real held rest onwards kind line e h = cc
 behind_real (breaks k l) rest onwards kind line e h = cc
 behind_real ended rest onwards kind line e h = cc
 
+-- a thread with code is one of the program's
 is_thread : (flat : FlatProgram) (thread : ℕ) → (code_of flat thread ≡ [] → ⊥) → thread < length flat.threads
 is_thread flat thread h = decide (nat_lt thread (length flat.threads)) refl
   where
@@ -350,6 +384,7 @@ is_thread flat thread h = decide (nat_lt thread (length flat.threads)) refl
     decide true e = grind arith
     decide false e = absurd (h (no_code flat.threads thread (let z : length flat.threads ≤ thread = grind arith in z)))
 
+-- behind a step of a run that breaks come threads of the program
 rest_breaks : (r : Ran) (rest : List ℕ) (onwards : ℕ → List ℕ → Course) (kind : BreakKind) (line threads : ℕ) → ((place : ℕ) (m : List ℕ) → onwards place m ≡ broken kind line → AreThreads threads rest) → course_behind r rest onwards ≡ broken kind line → AreThreads threads rest
 rest_breaks (went place m) rest onwards kind line threads h e = h place m e
 rest_breaks held rest onwards kind line threads h e = absurd cc
@@ -357,6 +392,7 @@ rest_breaks (breaks k l) [] onwards kind line threads h e = tt
 rest_breaks (breaks k l) (u ∷ rest) onwards kind line threads h e = absurd cc
 rest_breaks ended rest onwards kind line threads h e = absurd cc
 
+-- a run that breaks has steps of the program's threads alone
 run_threads : (flat : FlatProgram) (inputs : ℕ → ℕ → ℕ) (run places memory : List ℕ) (kind : BreakKind) (line : ℕ) → course flat inputs run places memory ≡ broken kind line → AreThreads (length flat.threads) run
 unfolding course
 run_threads flat inputs [] places memory kind line e = tt
@@ -367,6 +403,7 @@ run_threads flat inputs (thread ∷ rest) places memory kind line e =
           (λ place m d. run_threads flat inputs rest (slice_set places thread place) m kind line d) e,
     )
 
+-- inputs that drive a break are a broken run of at most so many rounds
 in_rounds : (flat : FlatProgram) (rounds : ℕ) (input : ℕ → ℕ) → ((i : ℕ) → input i < value_bound) → DrivesBreak flat rounds input → FlatBroken flat rounds
 unfolding driven
 in_rounds flat zero input small d = absurd (let e = d.2 in cc)
@@ -375,6 +412,7 @@ in_rounds flat (suc rounds) input small d =
     (subst (λ (t : ℕ). AreThreads t (blocks (suc rounds) (length flat.threads))) (sym (length_zeros (length flat.threads))) (blocks_small (suc rounds) (length flat.threads))) d.2 in
     (f.has.0, f.inputs, d.0, d.1, record { words = f.small; few = few_rounds rounds (length flat.threads) f.has.0 f.has.1; breaks = f.has.2 })
 
+-- a broken run of at most so many rounds has inputs that drive a break
 some_inputs : (flat : FlatProgram) (rounds : ℕ) → IsWellMarked flat → ((thread : ℕ) → length (code_of flat thread) < value_bound) → FlatBroken flat rounds → (input : ℕ → ℕ) × ((i : ℕ) → input i < value_bound) × DrivesBreak flat rounds input
 some_inputs flat rounds well short b =
     let bs = blocks rounds (length flat.threads) in

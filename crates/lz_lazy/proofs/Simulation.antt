@@ -15,24 +15,29 @@ use Rattle.lz_lazy.proofs.LaidOut.{laid, at_flag, set_flag, set_saved, ready, re
 
 -- ---- one statement
 
+-- a statement whose guard is 0 is passed over
 pub passed : (input : ℕ → ℕ) (i : ℕ) (first : Statement) (rest : List Statement) (memory : List ℕ) → value first.guard memory ≡ 0
     → straight input i (first ∷ rest) memory ≡ straight input (suc i) rest memory
 unfolding straight
 passed input i first rest memory e = rw e refl
 
+-- a statement whose guard is 1 does what its instruction does
 pub taken : (input : ℕ → ℕ) (i : ℕ) (first : Statement) (rest : List Statement) (memory : List ℕ) → value first.guard memory ≡ 1
     → straight input i (first ∷ rest) memory ≡ fate_behind (did first.instr (input i) memory) (straight input (suc i) rest)
 unfolding straight
 taken input i first rest memory e = rw e refl
 
+-- the guard of an instruction is the flag
 pub flag_is : (n : ℕ) (words : List ℕ) (guess flag : ℕ) (places : List ℕ) → length words ≡ n → value (word (flag_place n)) (laid words guess flag places) ≡ flag
 unfolding value
 flag_is n words guess flag places long = at_flag n words guess flag places long
 
+-- a constant has its value
 pub constant_is : (v : ℕ) (memory : List ℕ) → value (constant v) memory ≡ v
 unfolding value
 constant_is v memory = refl
 
+-- an assignment writes the value
 pub sets_did : (to : Location) (of : Expression) (input : ℕ) (memory : List ℕ) → did (sets to of) input memory ≡ moved 0 (put to (value of memory) memory)
 unfolding did
 sets_did to of input memory = refl
@@ -51,6 +56,7 @@ third input o n thread l part rest words guess flag places long =
       set_flag n words guess flag (ready_next guess (slice_index places thread) l part) places long,
     ) refl
 
+-- the two statements behind an instruction that did not run set the flag for the next alone
 pub tail_off : (input : ℕ → ℕ) (o n thread l : ℕ) (of : Expression) (part : List MarkedInstruction) (rest : List Statement) (words : List ℕ) (guess : ℕ) (places : List ℕ) → length words ≡ n
     → straight input o (flagged n (sets (whole (saved_place n thread)) of) ∷ always (sets (whole (flag_place n)) (runs_next n thread l part)) ∷ rest) (laid words guess 0 places)
     ≡ straight input (suc (suc o)) rest (laid words guess (ready_next guess (slice_index places thread) l part) places)
@@ -58,6 +64,7 @@ tail_off input o n thread l of part rest words guess places long =
     passed input o (flagged n (sets (whole (saved_place n thread)) of)) (always (sets (whole (flag_place n)) (runs_next n thread l part)) ∷ rest) (laid words guess 0 places) (flag_is n words guess 0 places long)
     ∙ third input (suc o) n thread l part rest words guess 0 places long
 
+-- behind one that ran they set the saved place and the flag
 pub tail_on : (input : ℕ → ℕ) (o n thread l : ℕ) (of : Expression) (part : List MarkedInstruction) (rest : List Statement) (words : List ℕ) (guess place : ℕ) (places : List ℕ) → length words ≡ n
     → thread < length places → value of (laid words guess 1 places) ≡ place
     → straight input o (flagged n (sets (whole (saved_place n thread)) of) ∷ always (sets (whole (flag_place n)) (runs_next n thread l part)) ∷ rest) (laid words guess 1 places)
@@ -72,6 +79,7 @@ tail_on input o n thread l of part rest words guess place places long lt e =
 
 -- ---- the three statements of an instruction
 
+-- what follows an instruction, by its memory
 abbrev pub did_next : Did → (ℕ → List ℕ → Fate) → Fate
 did_next (moved over memory) next = next over memory
 did_next blocked next = stops
@@ -83,14 +91,17 @@ Plain (moved over memory) = over ≡ 0
 Plain blocked = ⊤
 Plain (broke kind line) = ⊤
 
+-- either of two that move on by one place does so
 plain_cond : (b : Bool) (d e : Did) → Plain d → Plain e → Plain (cond b d e)
 plain_cond true d e h k = h
 plain_cond false d e h k = k
 
+-- what follows the three statements of an instruction that led to a memory
 abbrev Behind3 : (ℕ → ℕ) → ℕ → ℕ → ℕ → ℕ → List MarkedInstruction → List Statement → ℕ → List ℕ → ℕ → List ℕ → Fate
 Behind3 input o n thread l part rest guess places over memory =
     straight input (suc (suc (suc o))) rest (laid memory guess (ready_next guess (l + over) l part) (slice_set places thread (l + over)))
 
+-- an instruction that is no skip, then what follows
 plain_on : (input : ℕ → ℕ) (o n thread l : ℕ) (part : List MarkedInstruction) (rest : List Statement) (d : Did) (guess : ℕ) (places : List ℕ)
     → thread < length places → Plain d → Keeps n d
     → fate_behind (extended (guess ∷ 1 ∷ places) d) (straight input (suc o) (flagged n (sets (whole (saved_place n thread)) (constant l)) ∷ always (sets (whole (flag_place n)) (runs_next n thread l part)) ∷ rest))
@@ -101,6 +112,7 @@ plain_on input o n thread l part rest (moved over memory) guess places lt plain 
 plain_on input o n thread l part rest blocked guess places lt plain keeps = refl
 plain_on input o n thread l part rest (broke kind line) guess places lt plain keeps = refl
 
+-- an instruction under a flag of 1 does what it does
 flagged_on : (input : ℕ → ℕ) (o n thread l : ℕ) (i : Instruction) (part : List MarkedInstruction) (rest : List Statement) (words : List ℕ) (guess : ℕ) (places : List ℕ)
     → length words ≡ n → thread < length places → IsInstructionOf n i → Plain (did i (input o) words)
     → straight input o (flagged n i ∷ flagged n (sets (whole (saved_place n thread)) (constant l)) ∷ always (sets (whole (flag_place n)) (runs_next n thread l part)) ∷ rest) (laid words guess 1 places)
@@ -109,6 +121,7 @@ flagged_on input o n thread l i part rest words guess places long lt is plain =
     taken input o (flagged n i) (flagged n (sets (whole (saved_place n thread)) (constant l)) ∷ always (sets (whole (flag_place n)) (runs_next n thread l part)) ∷ rest) (laid words guess 1 places) (flag_is n words guess 1 places long)
     ∙ rw (did_laid n i (input o) words (guess ∷ 1 ∷ places) long is) (plain_on input o n thread l part rest (did i (input o) words) guess places lt plain (did_keeps n i (input o) words long))
 
+-- the place behind a skip is where it leads
 skip_value : (n l by : ℕ) (test : Expression) (words rest : List ℕ) → length words ≡ n → IsInstructionOf n (skips test by) → 1 ≤ by
     → value (choose test (constant (l + by)) (constant (suc l))) (words ++ rest) ≡ suc l + (if value test words == 0 then 0 else by - 1)
 unfolding value
@@ -135,6 +148,7 @@ three_on input o n thread l left (skips test by) part rest words guess places lo
     ∙ tail_on input (suc o) n thread (suc l) (following l (skips test by)) part rest words guess (suc l + (if value test words == 0 then 0 else by - 1)) places long lt
     (skip_value n l by test words (guess ∷ 1 ∷ places) long is go.0)
 
+-- under a flag of 0 the instruction does nothing
 body_off : (input : ℕ → ℕ) (o n : ℕ) (i : Instruction) (rest : List Statement) (words : List ℕ) (guess : ℕ) (places : List ℕ) → length words ≡ n
     → straight input o (body n i ∷ rest) (laid words guess 0 places) ≡ straight input (suc o) rest (laid words guess 0 places)
 body_off input o n (sets to of) rest words guess places long = passed input o (flagged n (sets to of)) rest (laid words guess 0 places) (flag_is n words guess 0 places long)
@@ -153,6 +167,7 @@ three_off input o n thread l i part rest words guess places long =
 
 -- ---- the flag's value
 
+-- two numbers that differ are not equal
 nat_differ : (a b : ℕ) → (a ≡ b → ⊥) → (a == b) ≡ false
 nat_differ a b h = decide (a == b) refl
   where
@@ -160,6 +175,7 @@ nat_differ a b h = decide (a == b) refl
     decide true e = absurd (h (eqb-true a b e))
     decide false e = e
 
+-- a number equals itself
 nat_same : (a : ℕ) → (a == a) ≡ true
 nat_same a = decide (a == a) refl
   where
@@ -167,6 +183,7 @@ nat_same a = decide (a == a) refl
     decide true e = e
     decide false e = absurd (eqb-false a a e refl)
 
+-- no instruction runs but the one at the saved place
 pub ready_off : (guess place l : ℕ) (visible : Bool) → (place ≡ l → ⊥) → ready guess place l visible ≡ 0
 ready_off guess place l true h = rw (nat_differ place l h) refl
 ready_off guess place l false h = rw (nat_differ place l h) refl
@@ -180,6 +197,7 @@ ready_on guess place l true e = rw (e, nat_same l) (turned (nat_lt l guess))
     turned false = refl
 ready_on guess place l false e = rw (e, nat_same l) refl
 
+-- so the next one where the thread stands elsewhere
 pub next_off : (guess place l : ℕ) (part : List MarkedInstruction) → (place ≡ l → ⊥) → ready_next guess place l part ≡ 0
 next_off guess place l [] h = refl
 next_off guess place l (first ∷ rest) h = ready_off guess place l first.visible h
@@ -204,6 +222,7 @@ fate_of thread guess places held = stops
 fate_of thread guess places (breaks kind line) = fails
 fate_of thread guess places ended = stops
 
+-- of two writes of a place the second stays
 pub set_twice : (places : List ℕ) (thread a b : ℕ) → slice_set (slice_set places thread a) thread b ≡ slice_set places thread b
 set_twice [] thread a b = refl
 set_twice (x ∷ xs) zero a b = refl
@@ -239,11 +258,13 @@ at_place input b n thread l first part words guess places false long lt is go la
     three_on input (b + (12 + 3 * l)) n thread l (suc (length part)) first.instr part (encoded n thread (suc l) part) words guess (slice_set places thread l) long lt' is go
     ∙ on_next input b n thread l part guess places (did first.instr (source input b l) words) (did_keeps n first.instr (source input b l) words long) later
 
+-- at the end of the code nothing is left to simulate
 simulates_none : (input : ℕ → ℕ) (b n thread l over : ℕ) (words : List ℕ) (guess : ℕ) (places : List ℕ)
     → straight input (b + (12 + 3 * l)) (encoded n thread l []) (laid words guess 0 (slice_set places thread (l + over))) ≡ still (laid words guess 0 (slice_set places thread (l + over)))
 unfolding encoded straight
 simulates_none input b n thread l over words guess places = refl
 
+-- the statements of an instruction that is passed over change nothing but the flag
 passes_over : (input : ℕ → ℕ) (b n thread l over : ℕ) (first : MarkedInstruction) (rest : List MarkedInstruction) (words : List ℕ) (guess : ℕ) (places : List ℕ) → length words ≡ n → thread < length places
     → straight input (b + (12 + 3 * suc l)) (encoded n thread (suc l) rest) (laid words guess (ready_next guess (suc l + over) (suc l) rest) (slice_set places thread (suc l + over)))
     ≡ fate_of thread guess places (pass guess (source input b) (suc l) rest over words)

@@ -9,6 +9,7 @@ use Rattle.lz_flat.specs.StraightRuns.{Fate, fate_behind, straight}
 use Rattle.lz_lazy.specs.Encoding.{head, encoded, encoded_blocks, encoding}
 use Rattle.lz_lazy.proofs.Driving.{length_encoded}
 
+-- the blocks of two lists of threads have the statements of both
 size_append : (flat : FlatProgram) (xs ys : List ℕ) → length (encoded_blocks flat (xs ++ ys)) ≡ length (encoded_blocks flat xs) + length (encoded_blocks flat ys)
 unfolding encoded_blocks
 size_append flat [] ys = let z : length (encoded_blocks flat ys) ≡ 0 + length (encoded_blocks flat ys) = omega arith in z
@@ -20,12 +21,14 @@ size_append flat (t ∷ xs) ys =
     let c = size_append flat xs ys in
     omega (arith, a, b, c)
 
+-- the code of a thread and those behind it
 pub part_at : (xs : List (List MarkedInstruction)) (t : ℕ) (code : List MarkedInstruction) (rest : List (List MarkedInstruction)) → drop t xs ≡ code ∷ rest → (slice_index_or xs t [] ≡ code) × (drop (suc t) xs ≡ rest)
 part_at [] zero code rest e = absurd cc
 part_at [] (suc t) code rest e = absurd cc
 part_at (x ∷ xs) zero code rest e = (cc, cc)
 part_at (x ∷ xs) (suc t) code rest e = part_at xs t code rest e
 
+-- the statements of a round, by instructions and threads
 size_round : (flat : FlatProgram) (part : List (List MarkedInstruction)) (t : ℕ) → drop t flat.threads ≡ part → length (encoded_blocks flat (threads_from t (length part))) ≡ 3 * (instructions part + 4 * length part)
 unfolding encoded_blocks
 size_round flat [] t e = refl
@@ -51,26 +54,31 @@ size flat (suc rounds) =
 
 -- ---- inputs as lists
 
+-- so many inputs as a list
 unfoldable pub listed : (ℕ → ℕ) → ℕ → ℕ → List ℕ
 listed input i zero = []
 listed input i (suc more) = input i ∷ listed input (suc i) more
 
+-- it has so many
 pub length_listed : (input : ℕ → ℕ) (i more : ℕ) → length (listed input i more) ≡ more
 unfolding listed
 length_listed input i zero = refl
 length_listed input i (suc more) = ap suc (length_listed input (suc i) more)
 
+-- it has the inputs
 pub at_listed : (input : ℕ → ℕ) (i more k : ℕ) → k < more → slice_index (listed input i more) k ≡ input (i + k)
 unfolding listed
 at_listed input i zero k h = absurd (let z : ⊥ = omega arith in z)
 at_listed input i (suc more) zero h = ap input (let z : i ≡ i + 0 = omega arith in z)
 at_listed input i (suc more) (suc k) h = at_listed input (suc i) more k (omega arith) ∙ ap input (let z : suc i + k ≡ i + suc k = omega arith in z)
 
+-- behind an instruction comes the same where each way on is the same
 behind_same : (d : Did) (f g : List ℕ → Fate) → ((m : List ℕ) → f m ≡ g m) → fate_behind d f ≡ fate_behind d g
 behind_same (moved over memory) f g h = h memory
 behind_same blocked f g h = refl
 behind_same (broke kind line) f g h = refl
 
+-- statements read their own inputs alone
 pub straight_agrees : (a b : ℕ → ℕ) (i : ℕ) (list : List Statement) (memory : List ℕ) → ((k : ℕ) → i ≤ k → k < i + length list → a k ≡ b k) → straight a i list memory ≡ straight b i list memory
 unfolding straight
 straight_agrees a b i [] memory same = refl

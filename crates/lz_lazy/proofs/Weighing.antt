@@ -6,6 +6,7 @@ use Rattle.lz_flat.specs.Weight.{expression_weight, parts_weight, statement_weig
 use Rattle.lz_lazy.specs.Encoding.{stands_at, runs_next, body, following, head, encoded, encoded_blocks, sequential}
 use Rattle.lz_lazy.proofs.Sizes.{part_at}
 
+-- two lists of statements weigh what each weighs
 both : (xs ys : List Statement) → list_weight (xs ++ ys) ≡ list_weight xs + list_weight ys
 both [] ys = let z : list_weight ys ≡ 0 + list_weight ys = omega arith in z
 both (x ∷ xs) ys = let h = both xs ys in omega arith
@@ -15,10 +16,12 @@ stands_weighs : (n thread l : ℕ) (visible : Bool) → expression_weight (stand
 stands_weighs n thread l true = refl
 stands_weighs n thread l false = refl
 
+-- what the test weighs that says whether the next instruction runs
 abbrev next_weight : List MarkedInstruction → ℕ
 next_weight [] = 2
 next_weight (first ∷ rest) = 37 + mark_number first.visible
 
+-- it weighs that
 next_weighs : (n thread l : ℕ) (part : List MarkedInstruction) → expression_weight (runs_next n thread l part) ≡ next_weight part
 next_weighs n thread l [] = refl
 next_weighs n thread l (first ∷ rest) = stands_weighs n thread l first.visible
@@ -31,6 +34,7 @@ two n l (assumes test) = omega arith
 two n l (checks test kind line) = omega arith
 two n l (skips test by) = omega arith
 
+-- the code of a thread weighs what its instructions weigh, but for the first test
 code_weighs : (n thread l : ℕ) (part : List MarkedInstruction) → list_weight (encoded n thread l part) + next_weight part ≡ code_weight part + 2
 unfolding encoded
 code_weighs n thread l [] = refl
@@ -40,9 +44,11 @@ code_weighs n thread l (first ∷ rest) =
     let own = two n l first.instr in
     omega (arith, later, next, own)
 
+-- the head of a block weighs what a thread weighs, with the first test
 head_weighs : (n thread : ℕ) (code : List MarkedInstruction) → list_weight (head n thread code) + 2 ≡ thread_number + next_weight code
 head_weighs n thread code = let next = next_weighs n thread 0 code in omega (arith, next)
 
+-- a round weighs what the flat program weighs
 round_weighs : (flat : FlatProgram) (part : List (List MarkedInstruction)) (t : ℕ) → drop t flat.threads ≡ part
     → list_weight (encoded_blocks flat (threads_from t (length part))) ≡ threads_weight part
 unfolding encoded_blocks
@@ -58,6 +64,7 @@ round_weighs flat (code ∷ rest) t e =
     let same : code_weight (code_of flat t) ≡ code_weight code = ap code_weight at.0 in
     omega (arith, later, a, b, c, d, same)
 
+-- the blocks of two lists of threads weigh what each weighs
 blocks_both : (flat : FlatProgram) (xs ys : List ℕ) → list_weight (encoded_blocks flat (xs ++ ys)) ≡ list_weight (encoded_blocks flat xs) + list_weight (encoded_blocks flat ys)
 unfolding encoded_blocks
 blocks_both flat [] ys = let z : list_weight (encoded_blocks flat ys) ≡ 0 + list_weight (encoded_blocks flat ys) = omega arith in z
@@ -69,6 +76,7 @@ blocks_both flat (t ∷ xs) ys =
     let c = blocks_both flat xs ys in
     omega (arith, a, b, c)
 
+-- so many rounds weigh so many times the flat program
 pub weighs : (flat : FlatProgram) (rounds : ℕ) → straight_weight (sequential flat rounds) ≡ rounds * flat_weight flat
 unfolding encoded_blocks
 weighs flat zero = let z : 0 ≡ 0 * flat_weight flat = omega arith in z

@@ -13,20 +13,24 @@ use Rattle.lz_lazy.proofs.Driving.{exact}
 use Rattle.lz_lazy.proofs.Reading.{existence}
 use Rattle.lz_lazy.proofs.Sizes.{listed, length_listed, at_listed, straight_agrees}
 
+-- so many inputs that are words are a list of words
 all_listed : (input : ℕ → ℕ) (i more : ℕ) → ((k : ℕ) → input k < value_bound) → AllByRecursion (λ v. v < value_bound) (listed input i more)
 unfolding listed
 all_listed input i zero small = tt
 all_listed input i (suc more) small = (small i, all_listed input (suc i) more small)
 
+-- each of a list of words is a word
 word_at : (inputs : List ℕ) (k : ℕ) → AllByRecursion (λ v. v < value_bound) inputs → slice_index inputs k < value_bound
 word_at [] zero all = omega arith
 word_at [] (suc k) all = omega arith
 word_at (x ∷ xs) zero all = all.0
 word_at (x ∷ xs) (suc k) all = word_at xs k all.1
 
+-- THE DRIVE: the straight program fails on inputs exactly where they drive a break
 pub fails_as_driven : (flat : FlatProgram) (rounds : ℕ) → IsWellMarked flat → ((thread : ℕ) → length (code_of flat thread) < value_bound) → FailsAsDriven flat rounds (sequential flat rounds)
 fails_as_driven flat rounds well short inputs is = exact flat rounds well short (slice_index inputs)
 
+-- THE ROUNDS: it fails on some inputs exactly where a run of at most so many rounds breaks
 pub fails_where_broken : (flat : FlatProgram) (rounds : ℕ) → IsWellMarked flat → ((thread : ℕ) → length (code_of flat thread) < value_bound) → FailsWhereBroken flat rounds (sequential flat rounds)
 fails_where_broken flat rounds well short = (there, back)
   where

@@ -24,6 +24,7 @@ use Rattle.lz_ssa.proofs.Writing.{Writes, guarded, put_under, write_gives}
 
 -- ---- what two nodes and a memory say of what is left of a program, which as a whole comes to a fate
 
+-- it has failed; or it is not alive, and does not fail; or what is left comes to the fate of the whole
 pub data Left (alive failed : ℕ) (memory : List ℕ) (input : ℕ → ℕ) (i : ℕ) (rest : List Statement) (whole : Fate) : Type 0 where
   lost : failed ≢ 0 → whole ≡ fails → Left alive failed memory input i rest whole
   dead : failed ≡ 0 → alive ≡ 0 → (whole ≡ fails → ⊥) → Left alive failed memory input i rest whole

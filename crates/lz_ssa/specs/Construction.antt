@@ -42,6 +42,7 @@ held_node (Made node) place drawn = record { drawn = drawn; node = node }
 held_node (First value) place drawn =
     record { drawn = record { list = drawn.list ++ nodes.Constant value ∷ []; words = slice_set drawn.words place (Made (length drawn.list)) }; node = length drawn.list }
 
+-- the node of the word at a place
 unfoldable pub word_node : ℕ → Drawn → With
 word_node place drawn = held_node (slice_index_or drawn.words place (First 0)) place drawn
 
@@ -55,6 +56,7 @@ with_word place made = record { list = made.drawn.list; words = slice_set made.d
 abbrev pub equals_made : ℕ → With → With
 equals_made node number = join binaries.Eq node number.node number.drawn
 
+-- the test that a node has this number
 unfoldable pub equals : ℕ → ℕ → Drawn → With
 equals node number drawn = equals_made node (add (nodes.Constant number) drawn)
 
@@ -62,6 +64,7 @@ equals node number drawn = equals_made node (add (nodes.Constant number) drawn)
 abbrev pub masked_made : ℕ → With → With
 masked_made node mask = join binaries.BitAnd node mask.node mask.drawn
 
+-- the bits of a node under this mask
 unfoldable pub masked : ℕ → ℕ → Drawn → With
 masked node mask drawn = masked_made node (add (nodes.Constant mask) drawn)
 
@@ -74,6 +77,7 @@ pub record Compared : Type 0 where
 abbrev pub compared_with : List ℕ → With → Compared
 compared_with tests test = record { drawn = test.drawn; tests = tests ++ test.node ∷ [] }
 
+-- the comparisons with so many numbers, from one on
 unfoldable pub compare_from : ℕ → ℕ → ℕ → ℕ → Compared → Compared
 compare_from node number step zero compared = compared
 compare_from node number step (suc more) compared =
@@ -92,6 +96,7 @@ pub record Decoded : Type 0 where
 abbrev pub group_mask : ℕ
 group_mask = 4294967264
 
+-- the low five bits of a word
 abbrev pub place_mask : ℕ
 place_mask = 31
 
@@ -103,15 +108,19 @@ group_size = 32
 abbrev pub groups_of : ℕ → ℕ
 groups_of len = (len + 31) / 32
 
+-- both lists of comparisons make the decoder
 abbrev pub split_done : List ℕ → Compared → Decoded
 split_done groups places = record { drawn = places.drawn; decoder = Split groups places.tests }
 
+-- then the comparisons with the places of a group
 abbrev pub split_places : List ℕ → With → Decoded
 split_places groups place = split_done groups (compare_from place.node 0 1 group_size (compared_none place.drawn))
 
+-- then the place in the group
 abbrev pub split_index : ℕ → Compared → Decoded
 split_index index groups = split_places groups.tests (masked index place_mask groups.drawn)
 
+-- the comparisons with the groups first
 abbrev pub split_groups : ℕ → ℕ → With → Decoded
 split_groups index len group = split_index index (compare_from group.node 0 32 (groups_of len) (compared_none group.drawn))
 
@@ -128,9 +137,11 @@ at_place (Split groups places) place drawn =
 
 -- ---- a read by an index: a chain of choices
 
+-- the word here where the test is true, and else what there was so far
 abbrev pub chosen : ℕ → ℕ → With → With
 chosen test so_far here = add (nodes.Choose test here.node so_far) here.drawn
 
+-- with the word at this place
 abbrev pub read_here : ℕ → ℕ → With → With
 read_here place so_far test = chosen test.node so_far (word_node place test.drawn)
 
@@ -138,10 +149,12 @@ read_here place so_far test = chosen test.node so_far (word_node place test.draw
 unfoldable pub read_turn : Decoder → ℕ → ℕ → With → With
 read_turn decoder first place so_far = read_here (first + place) so_far.node (at_place decoder place so_far.drawn)
 
+-- so with so many places from one on
 unfoldable pub read_from : Decoder → ℕ → ℕ → ℕ → With → With
 read_from decoder first place zero so_far = so_far
 read_from decoder first place (suc more) so_far = read_from decoder first (suc place) more (read_turn decoder first place so_far)
 
+-- from 0 on, all places of the list
 abbrev pub read_decoded : ℕ → ℕ → Decoded → With
 read_decoded first len index = read_from index.decoder first 0 len (add (nodes.Constant 0) index.drawn)
 
@@ -151,15 +164,19 @@ read_element first len index = read_decoded first len (decode index.node len ind
 
 -- ---- expressions
 
+-- a unary operator at a node
 abbrev pub unary_made : Unary → IntType → With → With
 unary_made op kind of = add (nodes.Unary op kind of.node) of.drawn
 
+-- a conversion of a node
 abbrev pub convert_made : IntType → IntType → With → With
 convert_made from to of = add (nodes.Convert from to of.node) of.drawn
 
+-- a binary operator at two nodes
 abbrev pub binary_made : Binary → IntType → ℕ → With → With
 binary_made op kind left right = add (nodes.Binary op kind left right.node) right.drawn
 
+-- a choice between two nodes
 abbrev pub choose_made : ℕ → ℕ → With → With
 choose_made test chosen other = add (nodes.Choose test chosen other.node) other.drawn
 
@@ -178,6 +195,7 @@ expression_node (choose test chosen other) drawn =
 
 -- ---- writes under a guard
 
+-- the word at this place becomes a choice between the value and itself
 abbrev pub written : ℕ → ℕ → ℕ → With → Drawn
 written place guard value here = with_word place (add (nodes.Choose guard value here.node) here.drawn)
 
@@ -185,9 +203,11 @@ written place guard value here = with_word place (add (nodes.Choose guard value 
 unfoldable pub write_word : ℕ → ℕ → ℕ → Drawn → Drawn
 write_word place guard value drawn = written place guard value (word_node place drawn)
 
+-- so by a guard that was made
 abbrev pub write_guarded : ℕ → ℕ → With → Drawn
 write_guarded place value guard = write_word place guard.node value guard.drawn
 
+-- so where the guard and the test of the place are true
 abbrev pub write_here : ℕ → ℕ → ℕ → With → Drawn
 write_here place guard value test = write_guarded place value (join binaries.Both guard test.node test.drawn)
 
@@ -195,14 +215,17 @@ write_here place guard value test = write_guarded place value (join binaries.Bot
 unfoldable pub write_turn : Decoder → ℕ → ℕ → ℕ → ℕ → Drawn → Drawn
 write_turn decoder first guard value place drawn = write_here (first + place) guard value (at_place decoder place drawn)
 
+-- so with so many places from one on
 unfoldable pub write_from : Decoder → ℕ → ℕ → ℕ → ℕ → ℕ → Drawn → Drawn
 write_from decoder first guard value place zero drawn = drawn
 write_from decoder first guard value place (suc more) drawn =
     write_from decoder first guard value (suc place) more (write_turn decoder first guard value place drawn)
 
+-- from 0 on, all places of the list
 abbrev pub write_decoded : ℕ → ℕ → ℕ → ℕ → Decoded → Drawn
 write_decoded first len guard value index = write_from index.decoder first guard value 0 len index.drawn
 
+-- so by the node of an index
 abbrev pub write_element : ℕ → ℕ → ℕ → ℕ → With → Drawn
 write_element first len guard value index = write_decoded first len guard value (decode index.node len index.drawn)
 
@@ -223,6 +246,7 @@ write_by (convert from to of) first len guard value drawn =
 write_by (choose test chosen other) first len guard value drawn =
     write_element first len guard value (expression_node (choose test chosen other) drawn)
 
+-- a write to a location
 abbrev pub write : Location → ℕ → With → Drawn
 write to guard value = write_by to.index to.first to.len guard value.node value.drawn
 
@@ -235,9 +259,11 @@ pub record Progress : Type 0 where
   pub alive : ℕ
   pub failed : ℕ
 
+-- the node that says whether the program is alive
 abbrev pub with_alive : ℕ → With → Progress
 with_alive failed alive = record { drawn = alive.drawn; alive = alive.node; failed = failed }
 
+-- the node that says whether it has failed
 abbrev pub with_failed : ℕ → With → Progress
 with_failed alive failed = record { drawn = failed.drawn; alive = alive; failed = failed.node }
 
@@ -245,9 +271,11 @@ with_failed alive failed = record { drawn = failed.drawn; alive = alive; failed 
 abbrev pub assume_either : ℕ → ℕ → With → Progress
 assume_either alive failed passes = with_alive failed (join binaries.Both alive passes.node passes.drawn)
 
+-- where the guard is 0 the assumption passes
 abbrev pub assume_not : ℕ → ℕ → ℕ → With → Progress
 assume_not alive failed test not_guard = assume_either alive failed (join binaries.Either not_guard.node test not_guard.drawn)
 
+-- an assumption under a guard
 unfoldable pub assume_made : ℕ → ℕ → ℕ → With → Progress
 assume_made alive failed guard test = assume_not alive failed test.node (add (nodes.Unary unaries.Not Unsigned guard) test.drawn)
 
@@ -255,15 +283,19 @@ assume_made alive failed guard test = assume_not alive failed test.node (add (no
 abbrev pub check_both : ℕ → ℕ → With → Progress
 check_both alive failed broken = with_failed alive (join binaries.Either failed broken.node broken.drawn)
 
+-- where the test is 0 the check breaks
 abbrev pub check_not : ℕ → ℕ → ℕ → With → Progress
 check_not alive failed runs not_test = check_both alive failed (join binaries.Both runs not_test.node not_test.drawn)
 
+-- a check that runs
 abbrev pub check_runs : ℕ → ℕ → ℕ → With → Progress
 check_runs alive failed test runs = check_not alive failed runs.node (add (nodes.Unary unaries.Not Unsigned test) runs.drawn)
 
+-- a check under a guard
 unfoldable pub check_made : ℕ → ℕ → ℕ → With → Progress
 check_made alive failed guard test = check_runs alive failed test.node (join binaries.Both alive guard test.drawn)
 
+-- the same nodes of being alive and of having failed
 abbrev pub with_drawn : ℕ → ℕ → Drawn → Progress
 with_drawn alive failed drawn = record { drawn = drawn; alive = alive; failed = failed }
 
@@ -275,6 +307,7 @@ instruction_made i (assumes test) alive failed guard = assume_made alive failed 
 instruction_made i (checks test kind line) alive failed guard = check_made alive failed guard.node (expression_node test guard.drawn)
 instruction_made i (skips test by) alive failed guard = with_drawn alive failed guard.drawn
 
+-- a statement with its guard
 unfoldable pub statement_made : ℕ → Statement → Progress → Progress
 statement_made i statement so_far =
     instruction_made i statement.instr so_far.alive so_far.failed (expression_node statement.guard so_far.drawn)
@@ -288,6 +321,7 @@ statements_made i (first ∷ rest) so_far = statements_made (suc i) rest (statem
 abbrev pub begin_failed : With → Progress
 begin_failed alive = with_failed alive.node (add (nodes.Constant 0) alive.drawn)
 
+-- before the first statement
 unfoldable pub begin : List ℕ → Progress
 begin first = begin_failed (add (nodes.Constant 1) (record { list = []; words = map (λ value. First value) first }))
 

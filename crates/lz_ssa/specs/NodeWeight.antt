@@ -4,6 +4,7 @@ use Rattle.lz_flat.specs.Weight.{constant_number, input_number, unary_number, bi
 use Rattle.lz_ssa.specs.declared.node.Node.{Node}
 use Rattle.lz_ssa.specs.declared.node.Node.TheVariants.{Constant, Input, Unary, Binary, Convert, Choose}
 
+-- the number of a node
 abbrev pub node_number : Node → ℕ
 node_number (Constant value) = constant_number
 node_number (Input number kind) = input_number

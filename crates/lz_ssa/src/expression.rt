@@ -30,11 +30,7 @@ fn read_turn(
 {
     let test = at_place(draft, decoder, place)?;
     let word = draft.word(first + place)?;
-    draft.add(Node::Choose {
-        test,
-        yes: word,
-        no: so_far,
-    })
+    draft.choose(test, word, so_far)
 }
 
 /// The word that the index chooses among so many from `first` on, or 0 past them: a chain of choices.
@@ -90,11 +86,7 @@ pub fn expression(alloc: Global, draft: &mut Draft, expr: &FlatExpr) -> Result<u
         }
         FlatExpr::Unary { op, kind, of } => {
             let of = expression(alloc, draft, of)?;
-            draft.add(Node::Unary {
-                op: *op,
-                kind: *kind,
-                of,
-            })
+            draft.unary(*op, *kind, of)
         }
         FlatExpr::Binary {
             op,
@@ -104,30 +96,17 @@ pub fn expression(alloc: Global, draft: &mut Draft, expr: &FlatExpr) -> Result<u
         } => {
             let left = expression(alloc, draft, left)?;
             let right = expression(alloc, draft, right)?;
-            draft.add(Node::Binary {
-                op: *op,
-                kind: *kind,
-                left,
-                right,
-            })
+            draft.binary(*op, *kind, left, right)
         }
         FlatExpr::Convert { from, to, of } => {
             let of = expression(alloc, draft, of)?;
-            draft.add(Node::Convert {
-                from: *from,
-                to: *to,
-                of,
-            })
+            draft.convert(*from, *to, of)
         }
         FlatExpr::Choose { test, yes, no } => {
             let test = expression(alloc, draft, test)?;
             let chosen = expression(alloc, draft, yes)?;
             let other = expression(alloc, draft, no)?;
-            draft.add(Node::Choose {
-                test,
-                yes: chosen,
-                no: other,
-            })
+            draft.choose(test, chosen, other)
         }
     }
 }

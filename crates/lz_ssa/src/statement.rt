@@ -49,11 +49,7 @@ impl Building {
         ensures made { OnOk result (progress self.new ≡ spec.assume_made self.old.alive self.old.failed guard (record { drawn = drawn self.old.draft; node = test })) }
         ensures words { length self.new.draft.words.items ≡ length self.old.draft.words.items }
     {
-        let not_guard = self.draft.add(Node::Unary {
-            op: Unary::Not,
-            kind: IntType::Unsigned,
-            of: guard,
-        })?;
+        let not_guard = self.draft.unary(Unary::Not, IntType::Unsigned, guard)?;
         let passes = self.draft.join(Binary::Either, not_guard, test)?;
         self.alive = self.draft.join(Binary::Both, self.alive, passes)?;
         Ok(())
@@ -66,11 +62,7 @@ impl Building {
         ensures words { length self.new.draft.words.items ≡ length self.old.draft.words.items }
     {
         let runs = self.draft.join(Binary::Both, self.alive, guard)?;
-        let not_test = self.draft.add(Node::Unary {
-            op: Unary::Not,
-            kind: IntType::Unsigned,
-            of: test,
-        })?;
+        let not_test = self.draft.unary(Unary::Not, IntType::Unsigned, test)?;
         let broken = self.draft.join(Binary::Both, runs, not_test)?;
         self.failed = self.draft.join(Binary::Either, self.failed, broken)?;
         Ok(())

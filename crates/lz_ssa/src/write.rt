@@ -7,7 +7,6 @@ ghost use Rattle.lz_ssa.specs.Drafts.{drawn, HasPlaces};
 use crate::decode::{Decoder, at_place, decode};
 use crate::draft::{Draft, Held};
 use crate::expression::expression;
-use crate::node::Node;
 use lz_base::{Binary, Memory, Value};
 use lz_flat::{FlatExpr, Spot};
 use std::alloc::Global;
@@ -20,11 +19,7 @@ fn write_word(draft: &mut Draft, place: u32, guard: u32, value: u32) -> Result<(
     ensures words { length draft.new.words.items ≡ length draft.old.words.items }
 {
     let word = draft.word(place)?;
-    let node = draft.add(Node::Choose {
-        test: guard,
-        yes: value,
-        no: word,
-    })?;
+    let node = draft.choose(guard, value, word)?;
     draft.words[place as usize] = Held::Made { node };
     Ok(())
 }

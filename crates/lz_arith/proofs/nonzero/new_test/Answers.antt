@@ -2,7 +2,7 @@ use Rattle.std.proofs.Common.{arith, ap, ◌∙◌, ◌<◌, sym, subst, List, �
 use Rattle.std.specs.List.{All}
 use Rattle.lz_cnf.specs.declared.clause.Lit.{Lit}
 use Rattle.lz_cnf.specs.Models.{variable_of}
-use Rattle.lz_gates.proofs.Gate.{variable_of-positive}
+use Rattle.lz_gates.proofs.Gate.{variable_of-positive, still_working}
 use Rattle.lz_gates.proofs.Lists.{below_two, negated_below}
 use Rattle.lz_arith.proofs.Truth.{tests_none, tests_more, tests_all, long_clause}
 use Rattle.lz_arith.proofs.nonzero.new_test.Goals as goal
@@ -38,6 +38,7 @@ returns-clause-made c =
     let is = c.items.ensures ∙ c.in_ok-some.ensures ∙ ap (λ (x : Lit). x ∷ c.args.bits.now) c.negated-2.ensures in
     tests_all _ _ _ _ _ _ c.loop-i.invariant c.loop-i-test.false c.in_ok-test.ensures.lit c.requires.bits c.in_ok-require-2.ensures.variables
     (c.in_ok-require-2.ensures.clauses ∙ ap (λ (xs : List Lit). c.loop-i.builder.clauses ++ xs ∷ []) is)
+    (still_working _ _ c.in_ok-test.ensures.stays_spent c.in_ok-require-2.ensures.working)
 
 pub returns-clause-lit : goal.returns-clause-lit
 returns-clause-lit c =
