@@ -139,7 +139,7 @@ fn programs(rt: HostRuntime) -> Result<(), Fail> {
         ("Im(V){R0;}", "function 1 0 void;", "a function"),
         ("SIm(){}", "static function 1 0;", "no parameter, no word"),
         ("V*f(V*a){}", "function 1 1;", "a parameter with a name"),
-        ("If(Ia,I){}", "no 7 8", "a definition names its parameters"),
+        ("If(Ia,I){}", "no 8 9", "a definition names its parameters"),
         ("XIf(){}", "no 5 6", "`extern` stands before no body"),
         ("If(I,Ia);", "prototype 1 2;", "a prototype need not"),
         (
