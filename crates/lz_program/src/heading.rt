@@ -10,7 +10,7 @@ use lz_tree::{Keyword, Lead, Token, TokenKind, TypeName};
 
 /// What stands before the parameters of a function or before the rest of the first declarator: `static`, `extern` or
 /// neither, a type and a name (C99 6.7, 6.9.1).
-#[derive(Clone, Copy, Debug, PartialEq, Eq)]
+#[derive(Clone, Copy, Debug)]
 pub struct Heading {
     /// The line of the first token.
     pub line: u32,

@@ -71,7 +71,8 @@ fn refused_at(tokens: &Tokens, at: usize) -> ParseError
     }
 }
 
-/// The program that the tokens spell, with their names (C99 6.9).
+/// The program that the tokens spell, with their names (C99 6.9). It reads the tokens from left to right, copies the
+/// names, and recurs no deeper than the height that a program may have.
 pub fn parse(alloc: Global, tokens: &Tokens) -> Result<Program, ParseError>
     // What is answered is well formed and spells the tokens, with their names.
     ensures found { IfOk result (λ p. IsProgram tokens.now (translation_unit p)) }
