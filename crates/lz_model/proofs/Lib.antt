@@ -1,3 +1,5 @@
 pub mod RoundsLemmas
 pub mod RunsLemmas
 pub mod ViolationLemmas
+pub mod StoreWitnesses
+pub mod FrontsLemmas
