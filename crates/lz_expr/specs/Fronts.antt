@@ -1,9 +1,10 @@
 -- Trusted: how far tokens begin a text of a language, and what is answered where they go no further.
-use Rattle.std.specs.Prelude.{◌≡◌, ℕ, ◌+◌, ◌<◌, ◌≤◌, Bool, List, ◌++◌, length, Option, Some, None, slice_get, slice_range, if◌then◌else◌}
+use Rattle.std.specs.Prelude.{◌≡◌, ℕ, ◌+◌, ◌<◌, ◌≤◌, Bool, List, ◌++◌, length, slice_range, if◌then◌else◌}
 use Rattle.lz_tree.specs.declared.token.Token.{Token}
 use Rattle.lz_tree.specs.declared.token.Tokens.{Tokens}
 use Rattle.lz_tree.specs.Trees.{Expression}
 use Rattle.lz_tree.specs.WellFormed.{InExpression}
+use Rattle.lz_expr.specs.Lines.{line_of}
 use Rattle.lz_expr.specs.declared.error.ParseError.{ParseError}
 use Rattle.lz_expr.specs.declared.error.ParseError.TheVariants.{NotAProgram, Memory}
 
@@ -17,14 +18,6 @@ pub record IsFront {T : Type 0} (l : T → List Token → Type 0) (list : List T
   pub within : at ≤ length list
   pub begins : Viable l (slice_range list from at)
   pub longest : at < length list → Viable l (slice_range list from (at + 1)) → ⊥
-
-abbrev pub line_or : ℕ → Option Token → ℕ
-line_or end (Some token) = token.line
-line_or end None = end
-
--- the line of a token, or past the last one the line at the end
-abbrev pub line_of : Tokens → ℕ → ℕ
-line_of tokens at = line_or tokens.end_line (slice_get tokens.list at)
 
 -- the level of the expressions that are meant: those of an assignment, or those of a choice
 abbrev pub class_of : Bool → ℕ

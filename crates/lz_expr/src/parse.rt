@@ -2,7 +2,8 @@ ghost use Rattle.std.specs.Prelude.{◌≡◌, ℕ, ◌^◌, ◌<◌, ◌≤◌,
 ghost use Rattle.lz_tree.specs.Trees.{Expression, expression};
 ghost use Rattle.lz_tree.specs.WellFormed.{InExpression};
 ghost use Rattle.lz_tree.specs.declared.token.Token.{Token};
-ghost use Rattle.lz_expr.specs.Fronts.{line_of, class_of, IsExpressionAt, IsNoExpressionAt};
+ghost use Rattle.lz_expr.specs.Fronts.{class_of, IsExpressionAt, IsNoExpressionAt};
+ghost use Rattle.lz_expr.specs.Lines.{line_of};
 
 use crate::error::ParseError;
 use crate::expression::{ASSIGN, CHOOSE, read_class};

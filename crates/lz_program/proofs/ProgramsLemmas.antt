@@ -9,7 +9,8 @@ use Rattle.lz_tree.specs.Spelling.{SpellsExternals}
 use Rattle.lz_tree.specs.Trees.{ExternalDeclaration, TranslationUnit}
 use Rattle.lz_tree.specs.Height.{greatest, external_height}
 use Rattle.lz_tree.specs.WellFormed.{FitsExternal, IsWellFormed}
-use Rattle.lz_expr.specs.Fronts.{Viable, line_of}
+use Rattle.lz_expr.specs.Fronts.{Viable}
+use Rattle.lz_expr.specs.Lines.{line_of}
 use Rattle.lz_expr.specs.Reading.{Outcome, gives, refused, and_then, ◌>>=◌, pure}
 use Rattle.lz_expr.specs.declared.error.ParseError.{ParseError}
 use Rattle.lz_expr.specs.declared.error.ParseError.TheVariants.{NotAProgram, Memory}

@@ -5,7 +5,7 @@ use Rattle.lz_tree.specs.declared.token.Tokens.{Tokens}
 use Rattle.lz_tree.specs.Trees.{TranslationUnit}
 use Rattle.lz_tree.specs.Spelling.{SpellsExternals, Spells}
 use Rattle.lz_tree.specs.WellFormed.{IsWellFormed}
-use Rattle.lz_expr.specs.Fronts.{line_of}
+use Rattle.lz_expr.specs.Lines.{line_of}
 use Rattle.lz_expr.specs.declared.error.ParseError.{ParseError}
 use Rattle.lz_expr.specs.declared.error.ParseError.TheVariants.{NotAProgram, Memory}
 

@@ -1,7 +1,7 @@
 -- Inner: what the values of the code are for the readers.
 use Rattle.std.specs.Prelude.{◌≡◌, ℕ}
 use Rattle.lz_tree.specs.declared.token.Tokens.{Tokens}
-use Rattle.lz_expr.specs.Fronts.{line_of}
+use Rattle.lz_expr.specs.Lines.{line_of}
 use Rattle.lz_expr.specs.declared.error.ParseError.{ParseError}
 use Rattle.lz_expr.specs.declared.error.ParseError.TheVariants.{NotAProgram, Memory}
 use Rattle.lz_program.specs.declared.heading.Heading.{Heading}

@@ -3,7 +3,7 @@ ghost use Rattle.lz_tree.specs.Trees.{TranslationUnit, translation_unit, externa
 ghost use Rattle.lz_tree.specs.declared.token.Tokens.{Tokens};
 ghost use Rattle.lz_expr.specs.Reading.{and_then, pure};
 ghost use Rattle.lz_expr.specs.Grammar.{Reads};
-ghost use Rattle.lz_expr.specs.Fronts.{line_of};
+ghost use Rattle.lz_expr.specs.Lines.{line_of};
 ghost use Rattle.lz_program.specs.Grammar as spec;
 ghost use Rattle.lz_program.specs.Programs.{IsProgram, IsNoProgram};
 ghost use Rattle.lz_program.specs.Views.{IsNamedAt};
