@@ -112,7 +112,8 @@ grow_table t kinds.Text r h = absurd cc
 
 -- ---- the words of a type, but for the last
 
-last_of : (u : List Token) (ks : List TokenKind) (k : TokenKind) → kinds_of u ≡ ks ++ k ∷ [] → (v : List Token) × (c : Token) × (u ≡ v ++ c ∷ []) × (kinds_of v ≡ ks) × (c.kind ≡ k)
+-- tokens whose last kind is known
+pub last_of : (u : List Token) (ks : List TokenKind) (k : TokenKind) → kinds_of u ≡ ks ++ k ∷ [] → (v : List Token) × (c : Token) × (u ≡ v ++ c ∷ []) × (kinds_of v ≡ ks) × (c.kind ≡ k)
 last_of [] [] k h = absurd cc
 last_of [] (x ∷ ks) k h = absurd cc
 last_of (c ∷ []) [] k h = let is : c.kind ≡ k = cc in ([], c, refl, refl, is)
@@ -130,7 +131,8 @@ kinds_more : (u : List Token) (c : Token) → kinds_of (u ++ c ∷ []) ≡ kinds
 kinds_more [] c = refl
 kinds_more (d ∷ u) c = ap (λ (w : List TokenKind). d.kind ∷ w) (kinds_more u c)
 
-one_kind : (u : List Token) (k : TokenKind) → kinds_of u ≡ k ∷ [] → (c : Token) × (u ≡ c ∷ []) × (c.kind ≡ k)
+-- one token of a known kind
+pub one_kind : (u : List Token) (k : TokenKind) → kinds_of u ≡ k ∷ [] → (c : Token) × (u ≡ c ∷ []) × (c.kind ≡ k)
 one_kind [] k h = absurd cc
 one_kind (c ∷ []) k h = let is : c.kind ≡ k = cc in (c, refl, is)
 one_kind (c ∷ d ∷ u) k h = absurd cc

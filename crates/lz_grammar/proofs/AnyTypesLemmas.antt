@@ -15,28 +15,9 @@ use Rattle.lz_expr.specs.Reading.{◌>>=◌, token, shows, grown}
 use Rattle.lz_expr.specs.Grammar.{key_in, key_meant, grow_by, grow}
 use Rattle.lz_expr.proofs.RowsLemmas.{Row, row_of, lined_text, row_lined}
 use Rattle.lz_expr.proofs.GrowLemmas.{Started, Larger}
-use Rattle.lz_expr.proofs.TypesLemmas.{type_goes, row_type}
+use Rattle.lz_expr.proofs.TypesLemmas.{type_goes, row_type, last_of, one_kind}
 use Rattle.lz_expr.proofs.TokensLemmas.{the_key, the_kind, line_leads}
 use Rattle.lz_grammar.specs.Grammar.{type_key, begins_type, type_name, lined_type}
-
-last_of : (u : List Token) (ks : List TokenKind) (k : TokenKind) → kinds_of u ≡ ks ++ k ∷ [] → (v : List Token) × (c : Token) × (u ≡ v ++ c ∷ []) × (kinds_of v ≡ ks) × (c.kind ≡ k)
-last_of [] [] k h = absurd cc
-last_of [] (x ∷ ks) k h = absurd cc
-last_of (c ∷ []) [] k h = let is : c.kind ≡ k = cc in ([], c, refl, refl, is)
-last_of (c ∷ d ∷ u) [] k h = absurd cc
-last_of (c ∷ u) (x ∷ ks) k h =
-    let more : kinds_of u ≡ ks ++ k ∷ [] = cc in
-    let first : c.kind ≡ x = cc in
-    let l = last_of u ks k more in
-    (c ∷ l.0, l.1, ap (λ (w : List Token). c ∷ w) l.2, cons_same first l.3, l.4)
-  where
-    cons_same : {a b : TokenKind} {xs ys : List TokenKind} → a ≡ b → xs ≡ ys → a ∷ xs ≡ b ∷ ys
-    cons_same e f = cc
-
-one_kind : (u : List Token) (k : TokenKind) → kinds_of u ≡ k ∷ [] → (c : Token) × (u ≡ c ∷ []) × (c.kind ≡ k)
-one_kind [] k h = absurd cc
-one_kind (c ∷ []) k h = let is : c.kind ≡ k = cc in (c, refl, is)
-one_kind (c ∷ d ∷ u) k h = absurd cc
 
 abbrev any : TypeName → Bool
 any t = true

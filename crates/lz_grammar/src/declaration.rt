@@ -279,9 +279,9 @@ pub fn read_more_declarators<'a>(
         if begins(rest, Punct::Semicolon) {
             break;
         }
-        let (declarator, after) = next_declarator(alloc, rest, height)?;
+        let (declarator, behind) = next_declarator(alloc, rest, height)?;
         declarators.push(declarator)?;
-        rest = after;
+        rest = behind;
     }
     let (_, rest) = mark(rest, Punct::Semicolon)?;
     Ok((declarators, rest))

@@ -255,9 +255,9 @@ fn repeated_behind<'a>(
     let (_, rest) = mark(rest, Punct::OpenParen)?;
     let (test, _, rest) = read_class(alloc, rest, below, ASSIGN)?;
     let (_, rest) = mark(rest, Punct::CloseParen)?;
-    let (_, rest) = mark(rest, Punct::Semicolon)?;
+    let (_, behind) = mark(rest, Punct::Semicolon)?;
     let body = Box::new(alloc, body)?;
-    Ok((Stmt::Do { line, body, test }, rest))
+    Ok((Stmt::Do { line, body, test }, behind))
 }
 
 /// The height that a part of a part may have.

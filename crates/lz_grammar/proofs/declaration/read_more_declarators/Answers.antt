@@ -18,7 +18,7 @@ returns-in_err-declarator c =
 
 pub turns-preserved : goal.turns-preserved
 turns-preserved c =
-    rw (c.in_ok-push-2.ensures.ok, map-append) (until_more (is_mark marks.Semicolon) (mark marks.Semicolon) (next_declarator expr c.args.height) _ (length c.args.tokens.now) c.turns._turn (map init_declarator c.turns.declarators) (init_declarator c.in_ok-declarator.declarator) c.turns.rest.now c.in_ok-declarator.after.now c.turns.invariant
+    rw (c.in_ok-push-2.ensures.ok, map-append) (until_more (is_mark marks.Semicolon) (mark marks.Semicolon) (next_declarator expr c.args.height) _ (length c.args.tokens.now) c.turns._turn (map init_declarator c.turns.declarators) (init_declarator c.in_ok-declarator.declarator) c.turns.rest.now c.in_ok-declarator.behind.now c.turns.invariant
     c.turns-test.true (sym c.begins.ensures ∙ c.if-begins.false) c.in_ok-declarator.ensures)
 
 pub returns-in_err-rest : goal.returns-in_err-rest

@@ -1,0 +1,517 @@
+use super::*;
+use lz_expr::Refusal;
+use lz_tree::{
+    Declarator, Expr, First, Form, Keyword, Objects, Param, Punct, Stmt, Token, TokenKind, TypeName,
+};
+use std::alloc::{AllocError, Global};
+use std::test::*;
+
+/// The height that a program may have.
+const HEIGHT: u32 = 200;
+
+/// The punctuator, the constant or the name that a letter stands for.
+fn other_of(letter: u8) -> TokenKind {
+    let mark = match letter {
+        b'(' => Punct::OpenParen,
+        b')' => Punct::CloseParen,
+        b'{' => Punct::OpenBrace,
+        b'}' => Punct::CloseBrace,
+        b'[' => Punct::OpenBracket,
+        b']' => Punct::CloseBracket,
+        b';' => Punct::Semicolon,
+        b',' => Punct::Comma,
+        b':' => Punct::Colon,
+        b'=' => Punct::Assign,
+        b'*' => Punct::Star,
+        b'1' => {
+            let form = Form {
+                decimal: true,
+                unsigned: false,
+                longs: 0,
+            };
+            return TokenKind::Constant { value: 1, form };
+        }
+        other => return TokenKind::Name {
+            number: other as u32,
+        },
+    };
+    TokenKind::Punct { mark }
+}
+
+/// The token that a letter stands for: a large one is a keyword.
+fn token_of(letter: u8) -> TokenKind {
+    let word = match letter {
+        b'I' => Keyword::If,
+        b'E' => Keyword::Else,
+        b'W' => Keyword::While,
+        b'D' => Keyword::Do,
+        b'F' => Keyword::For,
+        b'B' => Keyword::Break,
+        b'C' => Keyword::Continue,
+        b'R' => Keyword::Return,
+        b'N' => Keyword::Int,
+        b'U' => Keyword::Unsigned,
+        b'L' => Keyword::Long,
+        b'V' => Keyword::Void,
+        b'T' => Keyword::Thread,
+        b'M' => Keyword::Mutex,
+        b'K' => Keyword::Cond,
+        b'X' => Keyword::MutexInitializer,
+        b'Y' => Keyword::CondInitializer,
+        b'Z' => Keyword::Case,
+        other => return other_of(other),
+    };
+    TokenKind::Keyword { word }
+}
+
+/// One token a letter, each on a line of its own.
+fn tokens_of(alloc: Global, letters: &[u8]) -> Result<Vec<Token>, AllocError> {
+    let mut list = Vec::new(alloc);
+    let mut line = 1u32;
+    for letter in letters {
+        let kind = token_of(*letter);
+        list.push(Token {
+            kind,
+            line,
+            place: 0,
+        })?;
+        line = line.saturating_add(1);
+    }
+    Ok(list)
+}
+
+/// The letter of a name.
+fn letter(name: u32) -> &'static str {
+    match name {
+        97 => "a",
+        98 => "b",
+        99 => "c",
+        _ => "?",
+    }
+}
+
+/// An expression by its kind.
+fn shape(of: &Expr) -> &'static str {
+    match of {
+        Expr::Object { target } => letter(target.name),
+        Expr::Constant { .. } => "1",
+        Expr::Assign { .. } => "=",
+        Expr::Call { .. } => "f",
+        _ => "?",
+    }
+}
+
+/// An expression that may be left out.
+fn shape_or_none(of: &Option<Expr>) -> &'static str {
+    match of {
+        Some(of) => shape(of),
+        None => "-",
+    }
+}
+
+/// A type by the letters of its words.
+fn type_shape(of: TypeName) -> &'static str {
+    match of {
+        TypeName::Int => "N",
+        TypeName::UnsignedLongLongInt => "ULLN",
+        TypeName::Void => "V",
+        TypeName::VoidPointer => "V*",
+        TypeName::Thread => "T",
+        TypeName::Mutex => "M",
+        TypeName::Cond => "K",
+        _ => "?",
+    }
+}
+
+/// A declarator with its line, its length and its initializer.
+fn declarator_shape(alloc: Global, of: &Declarator) -> Result<String, AllocError> {
+    let line = of.line;
+    let name = letter(of.name);
+    let length = shape_or_none(&of.length);
+    let mut first = String::new(alloc);
+    match &of.first {
+        First::Nothing => {}
+        First::Value { value } => first.push_str(shape(value))?,
+        First::Listed { values, comma } => {
+            first.push_str("{")?;
+            for value in values {
+                first.push_str(shape(value))?;
+            }
+            first.push_str(if *comma { ",}" } else { "}" })?;
+        }
+        First::Mutex => first.push_str("X")?,
+        First::Cond => first.push_str("Y")?,
+    }
+    format!(in alloc; " {line}{name}[{length}]{first}")
+}
+
+/// A declaration with its line, its type and its declarators.
+fn objects_shape(alloc: Global, of: &Objects) -> Result<String, AllocError> {
+    let line = of.line;
+    let base = type_shape(of.base);
+    let mut text = format!(in alloc; "({line}{base}")?;
+    for declarator in of.declarators.items() {
+        text.push_str(declarator_shape(alloc, declarator)?.as_str())?;
+    }
+    text.push_str(")")?;
+    Ok(text)
+}
+
+/// A statement with each node in parentheses and its line before it.
+#[cycle(statement_shape)]
+fn statement_shape(alloc: Global, of: &Stmt) -> Result<String, AllocError> {
+    match of {
+        Stmt::Empty => format!(in alloc; "(;)"),
+        Stmt::Eval { value } => {
+            let value = shape(value);
+            format!(in alloc; "({value};)")
+        }
+        Stmt::Block { parts } => {
+            let mut text = format!(in alloc; "({{")?;
+            for part in parts {
+                text.push_str(statement_shape(alloc, part)?.as_str())?;
+            }
+            text.push_str("})")?;
+            Ok(text)
+        }
+        Stmt::Declare { of } => objects_shape(alloc, of),
+        Stmt::If {
+            line,
+            test,
+            yes,
+            no,
+        } => {
+            let test = shape(test);
+            let yes = statement_shape(alloc, yes)?;
+            let no = branch_shape(alloc, no)?;
+            format!(in alloc; "({line}I{test}{yes}{no})")
+        }
+        Stmt::While { line, test, body } => {
+            let test = shape(test);
+            let body = statement_shape(alloc, body)?;
+            format!(in alloc; "({line}W{test}{body})")
+        }
+        Stmt::Do { line, body, test } => {
+            let test = shape(test);
+            let body = statement_shape(alloc, body)?;
+            format!(in alloc; "({line}D{body}{test})")
+        }
+        Stmt::For {
+            line,
+            first,
+            test,
+            step,
+            body,
+        } => {
+            let first = statement_shape(alloc, first)?;
+            let test = shape_or_none(test);
+            let step = shape_or_none(step);
+            let body = statement_shape(alloc, body)?;
+            format!(in alloc; "({line}F{first}{test}{step}{body})")
+        }
+        Stmt::Break { line } => format!(in alloc; "({line}B)"),
+        Stmt::Continue { line } => format!(in alloc; "({line}C)"),
+        Stmt::Return { line, value } => {
+            let value = shape_or_none(value);
+            format!(in alloc; "({line}R{value})")
+        }
+        Stmt::Label { name, of } => {
+            let name = letter(*name);
+            let of = statement_shape(alloc, of)?;
+            format!(in alloc; "({name}:{of})")
+        }
+    }
+}
+
+/// What stands behind `else`.
+#[cycle(statement_shape)]
+fn branch_shape(alloc: Global, of: &Option<Box<Stmt>>) -> Result<String, AllocError> {
+    match of {
+        None => Ok(String::new(alloc)),
+        Some(of) => statement_shape(alloc, of),
+    }
+}
+
+/// Parameters with their lines, and whether they are the word `void`.
+fn params_shape(alloc: Global, params: &[Param], void_word: bool) -> Result<String, AllocError> {
+    let mut text = String::new(alloc);
+    for param in params {
+        let line = param.line;
+        let base = type_shape(param.base);
+        let name = match param.name {
+            Some(name) => letter(name),
+            None => "-",
+        };
+        text.push_str(format!(in alloc; "({line}{base}{name})")?.as_str())?;
+    }
+    if void_word {
+        text.push_str("void")?;
+    }
+    Ok(text)
+}
+
+/// What was read and the place behind it, or the refused token.
+fn told(
+    alloc: Global,
+    all: usize,
+    read: Result<(String, usize), Refusal>,
+) -> Result<String, AllocError> {
+    match read {
+        Ok((text, left)) => {
+            let at = all.saturating_sub(left);
+            format!(in alloc; "{text} {at}")
+        }
+        Err(Refusal::Refused { left }) => {
+            let at = all.saturating_sub(left);
+            format!(in alloc; "no {at}")
+        }
+        Err(Refusal::Memory) => format!(in alloc; "memory"),
+    }
+}
+
+/// What is answered for a statement.
+fn statement_answer(alloc: Global, letters: &[u8], height: u32) -> Result<String, AllocError> {
+    let tokens = tokens_of(alloc, letters)?;
+    let read = match read_statement(alloc, &tokens, height) {
+        Ok((of, rest)) => Ok((statement_shape(alloc, &of)?, rest.len())),
+        Err(refusal) => Err(refusal),
+    };
+    told(alloc, letters.len(), read)
+}
+
+/// What is answered for parameters.
+fn params_answer(alloc: Global, letters: &[u8]) -> Result<String, AllocError> {
+    let tokens = tokens_of(alloc, letters)?;
+    let read = match read_params(alloc, &tokens) {
+        Ok((params, void_word, rest)) => {
+            Ok((params_shape(alloc, params.items(), void_word)?, rest.len()))
+        }
+        Err(refusal) => Err(refusal),
+    };
+    told(alloc, letters.len(), read)
+}
+
+#[test]
+fn statements(rt: HostRuntime) -> Result<(), Fail> {
+    for (letters, wanted, why) in [
+        (";", "(;) 1", "nothing"),
+        ("a;", "(a;) 2", "an expression"),
+        ("a=1;", "(=;) 4", "an assignment"),
+        ("{}", "({}) 2", "a block of no part"),
+        ("{;a;{}}", "({(;)(a;)({})}) 7", "a block of three"),
+        ("I(a);b", "(1Ia(;)) 5", "an `if` alone"),
+        ("I(a)b;Ec;", "(1Ia(b;)(c;)) 9", "an `if` with `else`"),
+        (
+            "I(a)I(b);E;",
+            "(1Ia(5Ib(;)(;))) 11",
+            "`else` at the nearest `if`",
+        ),
+        (
+            "I(a){I(b);}E;",
+            "(1Ia({(6Ib(;))})(;)) 13",
+            "a block ends an `if`",
+        ),
+        (
+            "I(a)DI(b);W(c);E;",
+            "(1Ia(5D(6Ib(;))c)(;)) 17",
+            "so does a `do`",
+        ),
+        (
+            "I(a)W(b)I(c);E;",
+            "(1Ia(5Wb(9Ic(;)(;)))) 15",
+            "a loop does not",
+        ),
+        ("W(a=1)b;", "(1W=(b;)) 8", "a test is an assignment"),
+        ("Da;W(b);", "(1D(a;)b) 8", "the test behind its body"),
+        ("F(;;);", "(1F(;)--(;)) 6", "a `for` of no part"),
+        ("F(a;b;c)B;", "(1F(a;)bc(9B)) 10", "a `for` of all parts"),
+        (
+            "F(Na=1;;c)C;",
+            "(1F(3N 4a[-]1)-c(11C)) 12",
+            "a declaration begins it",
+        ),
+        ("R;", "(1R-) 2", "no value"),
+        ("Ra;", "(1Ra) 3", "a value"),
+        ("a:b:c;", "(a:(b:(c;))) 6", "labels"),
+        ("a();", "(f;) 4", "a call is no label"),
+        ("1:;", "no 1", "a constant is none"),
+        ("(a):;", "no 3", "nor is a name in parentheses"),
+        (
+            "I(a)Na;E;",
+            "(1Ia(5N 6a[-])(;)) 9",
+            "a declaration as a body",
+        ),
+        ("E;", "no 0", "`else` begins nothing"),
+        ("Da;W(b)", "no 7", "a `do` ends in `;`"),
+        ("", "no 0", "nothing at all"),
+    ] {
+        assert_eq!(rt;
+            statement_answer(rt.alloc(), letters.as_bytes(), HEIGHT)?.as_str(),
+            wanted,
+            "{letters}: {why}"
+        );
+    }
+    Ok(())
+}
+
+#[test]
+fn declarations(rt: HostRuntime) -> Result<(), Fail> {
+    for (letters, wanted, why) in [
+        ("Na;", "(1N 2a[-]) 3", "one object"),
+        ("Na,b,c;", "(1N 2a[-] 4b[-] 6c[-]) 7", "three of one type"),
+        ("ULLNa;", "(1ULLN 5a[-]) 6", "a type of four words"),
+        ("V*a;", "(1V* 3a[-]) 4", "a pointer"),
+        ("Va;", "(1V 2a[-]) 3", "a type that the rules refuse"),
+        ("Na[1];", "(1N 2a[1]) 6", "an array"),
+        ("Na[b=1];", "no 4", "a length is no assignment"),
+        ("Na=b=1;", "(1N 2a[-]=) 7", "an initializer is one"),
+        ("Na[1]={1,b};", "(1N 2a[1]{1b}) 12", "values"),
+        (
+            "Na[1]={1,};",
+            "(1N 2a[1]{1,}) 11",
+            "a comma behind the last",
+        ),
+        ("Na[1]={};", "no 7", "at least one value"),
+        ("Na={1,,};", "no 6", "one comma alone"),
+        ("Ma=X;", "(1M 2a[-]X) 5", "a mutex"),
+        ("Ka=Y;", "(1K 2a[-]Y) 5", "a condition"),
+        ("Ta;", "(1T 2a[-]) 3", "a thread"),
+        ("Na,;", "no 3", "no comma behind the last object"),
+        ("N;", "no 1", "at least one object"),
+        ("Na=;", "no 3", "no initializer"),
+    ] {
+        assert_eq!(rt;
+            statement_answer(rt.alloc(), letters.as_bytes(), HEIGHT)?.as_str(),
+            wanted,
+            "{letters}: {why}"
+        );
+    }
+    Ok(())
+}
+
+#[test]
+fn parameters(rt: HostRuntime) -> Result<(), Fail> {
+    for (letters, wanted, why) in [
+        (")", " 1", "none"),
+        ("V)", "void 2", "none by a word"),
+        ("Na)", "(1Na) 3", "one"),
+        ("Na,V*b)", "(1Na)(4V*b) 7", "two"),
+        ("N,V)", "(1N-)(3V-) 4", "names may be left out"),
+        ("Va)", "(1Va) 3", "a named `void` is one"),
+        ("Na,)", "no 3", "no comma behind the last"),
+        ("a)", "no 0", "a type first"),
+        ("Nab)", "no 2", "one name each"),
+    ] {
+        assert_eq!(rt;
+            params_answer(rt.alloc(), letters.as_bytes())?.as_str(),
+            wanted,
+            "{letters}: {why}"
+        );
+    }
+    Ok(())
+}
+
+/// The letters so often, and then one that can't stand.
+fn cut_off(alloc: Global, letters: &[u8]) -> Result<Vec<u8>, AllocError> {
+    let mut cut = Vec::new(alloc);
+    cut.extend_from_slice(letters)?;
+    cut.push(b'Z')?;
+    Ok(cut)
+}
+
+/// Each kind of statement, cut off before each of its tokens: the token that is put there is refused. An `if` that
+/// is cut off behind its first statement is whole.
+#[test]
+fn cuts(rt: HostRuntime) -> Result<(), Fail> {
+    let alloc = rt.alloc();
+    for (letters, whole) in [
+        (";", 9),
+        ("a=1;", 9),
+        ("{a;}", 9),
+        ("Na[1]={1,b,},c;", 99),
+        ("I(a);E;", 5),
+        ("W(a);", 9),
+        ("D;W(a);", 9),
+        ("F(Na;b;c);", 99),
+        ("F(a;;);", 9),
+        ("B;", 9),
+        ("C;", 9),
+        ("Ra;", 9),
+        ("a:;", 9),
+    ] {
+        let bytes = letters.as_bytes();
+        for at in 0..bytes.len() {
+            let cut = cut_off(alloc, &bytes[..at])?;
+            let answer = statement_answer(alloc, &cut, HEIGHT)?;
+            if at != whole {
+                let wanted = format!(in alloc; "no {at}")?;
+                assert_eq!(rt; answer.as_str(), wanted.as_str(), "{letters} cut at {at}");
+            } else {
+                assert_eq!(rt; answer.as_str(), "(1Ia(;)) 5", "{letters} cut at {at}");
+            }
+        }
+    }
+    Ok(())
+}
+
+/// Letters so many times, others, and letters so many times again.
+fn nested(
+    alloc: Global,
+    front: &[u8],
+    middle: &[u8],
+    back: &[u8],
+    times: usize,
+) -> Result<Vec<u8>, AllocError> {
+    let mut letters = Vec::new(alloc);
+    for _ in 0..times {
+        letters.extend_from_slice(front)?;
+    }
+    letters.extend_from_slice(middle)?;
+    for _ in 0..times {
+        letters.extend_from_slice(back)?;
+    }
+    Ok(letters)
+}
+
+/// Where a statement ends, or the refused token.
+fn end_of(alloc: Global, letters: &[u8]) -> Result<String, AllocError> {
+    let tokens = tokens_of(alloc, letters)?;
+    let read = match read_statement(alloc, &tokens, HEIGHT) {
+        Ok((_, rest)) => Ok((format!(in alloc; "to")?, rest.len())),
+        Err(refusal) => Err(refusal),
+    };
+    told(alloc, letters.len(), read)
+}
+
+/// The highest statement of each kind is read, and the next higher one refused where its height shows.
+#[test]
+fn heights(rt: HostRuntime) -> Result<(), Fail> {
+    let alloc = rt.alloc();
+    for (front, middle, back, times, ends, refused) in [
+        ("{", "", "}", 200usize, "to 400", "no 200"),
+        ("{", ";", "}", 199, "to 399", "no 200"),
+        ("I(a)", ";", "", 199, "to 797", "no 796"),
+        ("I(a);E", ";", "", 199, "to 1195", "no 1194"),
+        ("W(a)", ";", "", 199, "to 797", "no 796"),
+        ("D", ";", "W(a);", 199, "to 1195", "no 199"),
+        ("F(;;)", ";", "", 199, "to 996", "no 995"),
+        ("a:", ";", "", 199, "to 399", "no 398"),
+    ] {
+        for (times, wanted) in [(times, ends), (times.saturating_add(1), refused)] {
+            let letters = nested(
+                alloc,
+                front.as_bytes(),
+                middle.as_bytes(),
+                back.as_bytes(),
+                times,
+            )?;
+            let answer = end_of(alloc, &letters)?;
+            assert_eq!(rt;
+                answer.as_str(),
+                wanted,
+                "{front}{middle}{back} {times} times"
+            );
+        }
+    }
+    Ok(())
+}
