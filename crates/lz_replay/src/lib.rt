@@ -3,9 +3,14 @@
 
 mod bytes;
 mod error;
+mod laws;
 mod print;
 mod read;
 
 pub use error::ScheduleError;
+pub use laws::{one_schedule, printed_is_read};
 pub use print::print_schedule;
 pub use read::read_schedule;
+
+#[cfg(test)]
+mod tests;
