@@ -1,3 +1,5 @@
+mod WalkLemmas
+mod ArgumentsLemmas
 mod MeaningLemmas
 mod NamesLemmas
 mod Witnesses

@@ -134,39 +134,42 @@ is_wanted Mutex of = is_mutex of
 is_wanted Cond of = is_cond of
 is_wanted _ of = false
 
-abbrev pub is_routine : Option Object → Bool
-is_routine (Some (Routine n)) = true
-is_routine _ = false
+abbrev pub routine_of : Option Object → Option ℕ
+routine_of (Some (Routine n)) = Some n
+routine_of _ = None
 
-abbrev pub is_start_routine : File → Option Object → Bool
-is_start_routine file (Some (Routine n)) = is_start_at (slice_get file.functions n)
-is_start_routine file _ = false
+abbrev pub is_start_in : File → Option ℕ → Bool
+is_start_in file None = false
+is_start_in file (Some n) = is_start_at (slice_get file.functions n)
+
+-- `&` of an object of a type
+abbrev pub is_reference : Place → ValueType → Expression → Bool
+is_reference place to (address line at name index) = is_object_of (is_wanted to) (named place name)
+is_reference place to _ = false
+
+-- a thread object
+abbrev pub is_handle : Place → Expression → Bool
+is_handle place (object line name index) = is_object_of is_thread (named place name)
+is_handle place _ = false
 
 module _ (file : File) (place : Place) where
-  -- `&` of an object of a type
-  abbrev pub is_reference : ValueType → Expression → Bool
-  is_reference to (address line at name index) = is_object_of (is_wanted to) (named place name)
-  is_reference to _ = false
-
-  -- a thread object
-  abbrev pub is_handle : Expression → Bool
-  is_handle (object line name index) = is_object_of is_thread (named place name)
-  is_handle _ = false
+  -- the function of the file that a bare name means
+  abbrev pub routine_named : Expression → Option ℕ
+  routine_named (object line name whole) = routine_of (callee file place name)
+  routine_named _ = None
 
   -- the name of a function of the file
   abbrev pub is_function_name : Expression → Bool
-  is_function_name (object line name whole) = is_routine (callee file place name)
-  is_function_name _ = false
+  is_function_name e = is_some (routine_named e)
 
   -- the name of a start routine
   abbrev pub is_start_name : Expression → Bool
-  is_start_name (object line name whole) = is_start_routine file (callee file place name)
-  is_start_name _ = false
+  is_start_name e = is_start_in file (routine_named e)
 
   -- the rule that an argument breaks at its call
   abbrev pub misplaced : Want → Expression → Option Rule
-  misplaced (wants.Reference to) e = unless (is_reference to e) MisplacedAddress
-  misplaced wants.Handle e = unless (is_handle e) MisplacedAddress
+  misplaced (wants.Reference to) e = unless (is_reference place to e) MisplacedAddress
+  misplaced wants.Handle e = unless (is_handle place e) MisplacedAddress
   misplaced wants.Start e = unless (is_start_name e) NoStartRoutine
   misplaced wants.Null e = unless (is_null e) BadAttribute
   misplaced wants.Format e = unless (is_text e) MisplacedText
@@ -214,6 +217,20 @@ abbrev pub is_start_place : Want → Bool
 is_start_place wants.Start = true
 is_start_place _ = false
 
+-- the rules behind that of types that a node breaks other than a call: a constant has no `l` and is not too large; a
+-- text or `&` stands where it is wanted; and the type of a cast is one of the language
+abbrev pub late_alone : Want → Expression → List Rule
+late_alone want (constant line value form) =
+    if has_longs form then RefusedType ∷ [] else when (is_large value form) LargeConstant
+late_alone want (text line) = when (not (is_text_place want)) MisplacedText
+late_alone want (address line at name index) = when (not (is_address_place want)) MisplacedAddress
+late_alone want (cast line to of) = when (is_refused to) RefusedType
+late_alone want _ = []
+
+-- what an assignment or a step gives: one to a `void *` is a fault
+abbrev pub assigned_type : ValueType → ValueType
+assigned_type of = if is_pointer of then counted else of
+
 -- nothing in the list
 abbrev pub is_none_of : List Rule → Bool
 is_none_of [] = true
@@ -237,11 +254,16 @@ chosen first second =
 abbrev pub choice_want : ValueType → ValueType → Want
 choice_want first second = want_of (chosen first second)
 
-module _ (file : File) (place : Place) where
-  -- what a target is at the place
-  abbrev pub type_at : Bool → ℕ → Index → ValueType
-  type_at assigned name index = target_type assigned (named place name) (has_index index)
+-- what a target is at a place
+abbrev pub type_at : Place → Bool → ℕ → Index → ValueType
+type_at place assigned name index = target_type assigned (named place name) (has_index index)
 
+-- the rules up to that of types that a call breaks: it means a function, which takes so many arguments
+abbrev pub wrong_call : File → Option Object → ℕ → List Rule
+wrong_call file None args = NoFunction ∷ []
+wrong_call file (Some callee) args = when (not (takes file (Some callee) args)) ArgumentCount
+
+module _ (file : File) (place : Place) where
   -- one of some arguments breaks the rule at their call
   abbrev pub some_misplaced : Rule → List Want → Want → Expressions → Bool
   some_misplaced rule ws further none = false
@@ -251,16 +273,16 @@ module _ (file : File) (place : Place) where
   abbrev pub breaks_at_call : Rule → Option Object → Expressions → Bool
   breaks_at_call rule callee args = some_misplaced rule (wants_of file callee) (further_want callee) args
 
-  -- the rules up to that of types: a call means a function, which takes so many arguments; no `void *` is assigned to
-  abbrev pub wrong_call : Option Object → ℕ → List Rule
-  wrong_call None args = NoFunction ∷ []
-  wrong_call (Some callee) args = when (not (takes file (Some callee) args)) ArgumentCount
-
+  -- the rules up to that of types that a node breaks: no `void *` is assigned to, and a call is of a function
   abbrev pub early : Expression → List Rule
-  early (assign line op at name index value) = when (is_pointer (type_at true name index)) TypeMisfit
-  early (step line at name index up before) = when (is_pointer (type_at true name index)) TypeMisfit
-  early (call line name args) = wrong_call (callee file place name) (count args)
+  early (assign line op at name index value) = when (is_pointer (type_at place true name index)) TypeMisfit
+  early (step line at name index up before) = when (is_pointer (type_at place true name index)) TypeMisfit
+  early (call line name args) = wrong_call file (callee file place name) (count args)
   early _ = []
+
+  -- threads are made or joined where a start routine can come
+  abbrev pub is_thread_call : KnownName → Bool
+  is_thread_call k = is_for_threads k && is_in_thread file (around place)
 
   -- the rules behind that of types that a call breaks: of a function of the file, which could come back or is only
   -- started; or of a known name, with its arguments
@@ -269,41 +291,39 @@ module _ (file : File) (place : Place) where
       when (can_return file (around place) n) Recursive ++ when (is_only_started file (slice_get file.functions n)) PointerOutsideStart
   late_call (Some (Known k)) args =
       when (breaks_at_call NoStartRoutine (Some (Known k)) args) NoStartRoutine
-      ++ (when (is_for_threads k && is_in_thread file (around place)) ThreadInThread
+      ++ (when (is_thread_call k) ThreadInThread
       ++ (when (breaks_at_call MisplacedAddress (Some (Known k)) args) MisplacedAddress
       ++ (when (breaks_at_call BadAttribute (Some (Known k)) args) BadAttribute
       ++ when (breaks_at_call MisplacedText (Some (Known k)) args) MisplacedText)))
   late_call _ args = []
 
   abbrev pub late : Want → Expression → List Rule
-  late want (constant line value form) = when (is_large value form) LargeConstant ++ when (has_longs form) RefusedType
-  late want (text line) = when (not (is_text_place want)) MisplacedText
-  late want (address line at name index) = when (not (is_address_place want)) MisplacedAddress
-  late want (cast line to of) = when (is_refused to) RefusedType
   late want (call line name args) = late_call (callee file place name) args
-  late want _ = []
+  late want other = late_alone want other
 
-  -- the node breaks a rule by itself, wherever it stands
-  abbrev pub is_faulty : Expression → Bool
-  is_faulty e = not (is_none_of (early e) && is_none_of (late wants.Any e))
+  -- a call breaks no rule by itself, wherever it stands
+  abbrev pub is_right_call : Option Object → Expressions → Bool
+  is_right_call callee args = is_none_of (wrong_call file callee (count args)) && is_none_of (late_call callee args)
+
+  -- what a call gives, which counts as `int` where it breaks one
+  abbrev pub given_at : Option Object → Expressions → ValueType
+  given_at callee args = if is_right_call callee args then given file callee else counted
 
   -- What an expression is: one whose node breaks a rule counts as `int`.
   unfoldable pub type_of : Expression → ValueType
   type_of (constant line value form) = Integer (constant_kind value form)
   type_of (null line) = Pointer
   type_of (text line) = counted
-  type_of (object line name index) = type_at false name index
+  type_of (object line name index) = type_at place false name index
   type_of (address line at name index) = counted
   type_of (paren line inner) = as_inner (type_of inner)
   type_of (unary line op of) = Integer (unary_kind op (integer_kind (type_of of)))
   type_of (cast line to of) = value_type to
   type_of (binary line op left right) = Integer (binary_kind op (integer_kind (type_of left)) (integer_kind (type_of right)))
   type_of (choose line test first second) = chosen (type_of first) (type_of second)
-  type_of (assign line op at name index value) =
-      if is_faulty (assign line op at name index value) then counted else type_at true name index
-  type_of (step line at name index up before) =
-      if is_faulty (step line at name index up before) then counted else type_at true name index
-  type_of (call line name args) = if is_faulty (call line name args) then counted else given file (callee file place name)
+  type_of (assign line op at name index value) = assigned_type (type_at place true name index)
+  type_of (step line at name index up before) = assigned_type (type_at place true name index)
+  type_of (call line name args) = given_at (callee file place name) args
 
   -- what stands rightly at a place though its type is none that fits: the constant 0 for a `void *`, `&` of an object
   -- or a text where it is wanted, a thread object and the name of a function
@@ -312,10 +332,14 @@ module _ (file : File) (place : Place) where
   is_right want (text line) = is_text_place want
   is_right want (address line at name index) = is_address_place want
   is_right want (object line name index) =
-      (is_handle_place want && is_handle file place (object line name index))
+      (is_handle_place want && is_handle place (object line name index))
       || (is_start_place want && is_function_name file place (object line name index))
   is_right want _ = false
 
+  -- the rule that its type breaks at a place
+  abbrev pub clash_at : Want → Expression → List Rule
+  clash_at want e = if is_right want e then [] else clash want (type_of e)
+
   -- the rules that a node breaks by itself at a place that wants something of it, by number
   abbrev pub own : Want → Expression → List Rule
-  own want e = early e ++ ((if is_right want e then [] else clash want (type_of e)) ++ late want e)
+  own want e = early e ++ (clash_at want e ++ late want e)

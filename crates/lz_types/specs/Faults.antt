@@ -45,19 +45,19 @@ line_of (assign line op at name index value) = line
 line_of (step line at name index up before) = line
 line_of (call line name args) = line
 
+-- what a target breaks by itself
+abbrev pub target : Place → Bool → ℕ → ℕ → Index → List Fault
+target place assigned line name index = at line (misuse assigned (named place name) (has_index index))
+
 module _ (file : File) (place : Place) where
   -- what a node breaks by itself
   abbrev pub node : Want → Expression → List Fault
   node want e = at (line_of e) (own file place want e)
 
-  -- what a target breaks by itself
-  abbrev pub target : Bool → ℕ → ℕ → Index → List Fault
-  target assigned line name index = at line (misuse assigned (named place name) (has_index index))
-
   -- the name of a function where it is wanted is no object
   abbrev pub object_target : Want → ℕ → ℕ → Index → List Fault
   object_target want line name index =
-      if is_start_place want && is_function_name file place (object line name index) then [] else target false line name index
+      if is_start_place want && is_function_name file place (object line name index) then [] else target place false line name index
 
   unfoldable mutual
     -- the faults of an expression at a place that wants something of it
@@ -68,7 +68,7 @@ module _ (file : File) (place : Place) where
     faults want (object line name index) =
         node want (object line name index) ++ (object_target want line name index ++ index_faults index)
     faults want (address line at name index) =
-        node want (address line at name index) ++ (target false at name index ++ index_faults index)
+        node want (address line at name index) ++ (target place false at name index ++ index_faults index)
     faults want (paren line inner) = node want (paren line inner) ++ faults wants.Unneeded inner
     faults want (unary line op of) = node want (unary line op of) ++ faults wants.Integer of
     faults want (cast line to of) = node want (cast line to of) ++ faults wants.Any of
@@ -81,9 +81,9 @@ module _ (file : File) (place : Place) where
         ++ faults (choice_want (type_of file place first) (type_of file place second)) second))
     faults want (assign line op at name index value) =
         node want (assign line op at name index value)
-        ++ (target true at name index ++ (index_faults index ++ faults (want_of (type_at file place true name index)) value))
+        ++ (target place true at name index ++ (index_faults index ++ faults (want_of (type_at place true name index)) value))
     faults want (step line at name index up before) =
-        node want (step line at name index up before) ++ (target true at name index ++ index_faults index)
+        node want (step line at name index up before) ++ (target place true at name index ++ index_faults index)
     faults want (call line name args) =
         node want (call line name args)
         ++ all_faults (wants_of file (callee file place name)) (further_want (callee file place name)) args

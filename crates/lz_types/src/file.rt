@@ -119,6 +119,16 @@ impl WholeFile {
         }
     }
 
+    /// The name of a function.
+    pub fn name(&self, function: u32) -> Option<u32>
+        ensures { result ≡ option_map (λ f. f.name) (slice_get self.now.functions function) }
+    {
+        match self.functions.get(function as usize) {
+            None => None,
+            Some(f) => Some(f.name),
+        }
+    }
+
     /// The type of the result of a function.
     pub fn gives(&self, function: u32) -> Option<TypeName>
         ensures { result ≡ option_map (λ f. f.gives) (slice_get self.now.functions function) }

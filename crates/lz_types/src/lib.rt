@@ -1,7 +1,9 @@
 //! The rules of the checked language: what is wrong with a program, and what its names mean (C99 6.2 to 6.9).
 #![tactic(auto)]
 
+mod arguments;
 mod constant;
+mod expressions;
 mod fault;
 mod file;
 mod meaning;
@@ -10,6 +12,7 @@ mod place;
 mod reserved;
 mod signature;
 mod value_type;
+mod walk;
 
 pub use constant::Word;
 pub use fault::{Fault, Rule, TypeError};
