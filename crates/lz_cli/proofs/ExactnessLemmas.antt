@@ -11,7 +11,8 @@ use Rattle.lz_model.proofs.ViolationLemmas.{rounds_of_run-follows}
 use Rattle.lz_cli.specs.declared.ending.Ending.{Ending}
 use Rattle.lz_cli.specs.declared.ending.Ending.TheVariants.{Successful, Failed, NotBuilt, FileTooLong, ReadFault, OutOfMemory}
 use Rattle.lz_cli.specs.CommandLine.{IsFileName}
-use Rattle.lz_cli.specs.Limits.{file_limit, defaults}
+use Rattle.lz_base.specs.Limits.{file_limit}
+use Rattle.lz_cli.specs.Limits.{defaults}
 use Rattle.lz_cli.specs.Ending.{Call, IsSource, IsFailure, IsLawful, NamesNoFile}
 use Rattle.lz_cli.specs.Exactness.{IsToldFile, IsDecided, IsEither}
 

@@ -16,7 +16,8 @@ use Rattle.lz_log.specs.Refutation.{Refutes}
 use Rattle.lz_cli.specs.declared.ending.Ending.{Ending}
 use Rattle.lz_cli.specs.declared.ending.Ending.TheVariants.{Successful, Failed, NotBuilt, FileTooLong, ReadFault, OutOfMemory}
 use Rattle.lz_cli.specs.CommandLine.{IsFileName}
-use Rattle.lz_cli.specs.Limits.{file_limit, Bounds, defaults}
+use Rattle.lz_base.specs.Limits.{file_limit}
+use Rattle.lz_cli.specs.Limits.{Bounds, defaults}
 
 -- ---- verdicts on the bytes of a file
 

@@ -1,9 +1,5 @@
--- Trusted: the numbers that bound a call, which are the longest file and the bounds on runs where no word says others.
+-- Trusted: the bounds of a call on runs, where no word says others.
 use Rattle.std.specs.Prelude.{ℕ}
-
--- the most bytes that a source file may have
-abbrev pub file_limit : ℕ
-file_limit = 1048576
 
 -- The bounds of a call: the turns of a loop each time that it is entered, the rounds of a run, and the
 -- conflicts that a solver may spend.

@@ -10,7 +10,7 @@ use Rattle.lz_cli.specs.declared.ending.Ending.{Ending}
 use Rattle.lz_cli.specs.declared.ending.Ending.TheVariants.{Successful, Failed, NotBuilt, FileTooLong, ReadFault, OutOfMemory}
 use Rattle.lz_cli.specs.declared.evidence.Evidence.{Evidence}
 use Rattle.lz_cli.specs.declared.evidence.Evidence.TheVariants.{Nothing, Proof}
-use Rattle.lz_cli.specs.Limits.{file_limit}
+use Rattle.lz_base.specs.Limits.{file_limit}
 
 -- the word for what breaks
 abbrev pub kind_word : BreakKind → List ℕ

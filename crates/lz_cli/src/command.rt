@@ -3,7 +3,8 @@
 ghost use Rattle.std.specs.Prelude.{◌≡◌, ◌≤◌, ℕ, List, length, IfOk};
 ghost use Rattle.lz_cli.specs.CommandLine.{IsFileName};
 ghost use Rattle.lz_cli.specs.Report.{report, status_of, IsPrintable};
-ghost use Rattle.lz_cli.specs.Limits.{file_limit, defaults};
+ghost use Rattle.lz_base.specs.Limits.{file_limit};
+ghost use Rattle.lz_cli.specs.Limits.{defaults};
 ghost use Rattle.lz_cli.specs.Ending.{Call, call_of, IsVerdict, IsLawful};
 ghost use Rattle.lz_cli.specs.Command.{output_of, IsDeliveredOrCutOff, Answers};
 
@@ -11,10 +12,10 @@ use crate::command_line::{Words, file_name};
 use crate::decide::{Decided, decide};
 use crate::ending::Ending;
 use crate::evidence::Evidence;
-use crate::limits::{DEFAULT_ROUNDS, DEFAULT_UNWIND, FILE_LIMIT};
+use crate::limits::{DEFAULT_ROUNDS, DEFAULT_UNWIND};
 use crate::refutation::refutation;
 use crate::report::{MEMORY_REPORT, print, status};
-use lz_base::{Memory, Name};
+use lz_base::{FILE_LIMIT, Memory, Name};
 use lz_outside::{Failed, Folder, ReadError, Sink, read_all, write_all};
 use lz_parse::{ParseError, parse};
 use std::alloc::Global;

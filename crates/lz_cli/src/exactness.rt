@@ -7,7 +7,7 @@ ghost use Rattle.lz_tree.specs.FirstFormScopes.{Program};
 ghost use Rattle.lz_tree.specs.FirstForm.{IsFirstForm};
 ghost use Rattle.lz_cli.specs.declared.ending.Ending.{Ending};
 ghost use Rattle.lz_cli.specs.CommandLine.{IsFileName};
-ghost use Rattle.lz_cli.specs.Limits.{file_limit};
+ghost use Rattle.lz_base.specs.Limits.{file_limit};
 ghost use Rattle.lz_cli.specs.Ending.{Call, IsLawful, NamesNoFile};
 ghost use Rattle.lz_cli.specs.Exactness.{IsToldFile, IsDecided, IsEither};
 

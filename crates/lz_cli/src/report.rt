@@ -6,8 +6,7 @@ ghost use Rattle.lz_model.specs.Rounds.{rounds_of, threads_of};
 ghost use Rattle.lz_cli.specs.Report.{report, success_line, kind_word, step_line, status_of, IsPrintable};
 
 use crate::ending::Ending;
-use crate::limits::FILE_LIMIT;
-use lz_base::{BreakKind, Bytes, Memory, Name};
+use lz_base::{BreakKind, Bytes, FILE_LIMIT, Memory, Name};
 use lz_model::{Schedule, Step, rounds};
 use std::alloc::Global;
 

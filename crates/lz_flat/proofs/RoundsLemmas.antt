@@ -4,7 +4,8 @@ use Rattle.std.proofs.Common.{◌≡◌, ℕ, zero, suc, ◌+◌, ◌≤◌, ◌
 use Rattle.std.specs.Prelude.{if◌then◌else◌}
 use Rattle.std.specs.List.{AllByRecursion}
 use Rattle.std.proofs.lemmas.Bool.{eqb-true, eqb-false}
-use Rattle.lz_flat.specs.FlatRuns.{threads_from, blocks, descents}
+use Rattle.lz_base.specs.Descents.{descents}
+use Rattle.lz_flat.specs.FlatRuns.{threads_from, blocks}
 
 -- the run's steps stand in blocks of these threads, in order
 pub data Fits : List ℕ → List ℕ → Type 0 where

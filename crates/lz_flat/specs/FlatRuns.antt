@@ -1,6 +1,7 @@
 -- Trusted: steps and runs of a flat program, its broken runs, and how a list of inputs drives it.
 use Rattle.std.specs.Prelude.{◌≡◌, ℕ, zero, suc, ◌+◌, ◌*◌, ◌<◌, ◌≤◌, nat_lt, List, [], ◌∷◌, ◌++◌, length, drop, replicate, slice_index, slice_set, if◌then◌else◌}
 use Rattle.lz_base.specs.Words.{value_bound}
+use Rattle.lz_base.specs.Descents.{descents}
 use Rattle.lz_base.specs.declared.word.BreakKind.{BreakKind}
 use Rattle.lz_flat.specs.Programs.{MarkedInstruction, FlatProgram, code_of}
 use Rattle.lz_flat.specs.Instructions.{Did, moved, blocked, broke, did}
@@ -64,12 +65,6 @@ course flat inputs (thread ∷ rest) places memory =
 -- a run begins with each thread at its first instruction
 abbrev pub opening : FlatProgram → List ℕ
 opening flat = replicate (length flat.threads) 0
-
--- how many neighbours there are of which the second is smaller
-abbrev pub descents : List ℕ → ℕ
-descents [] = 0
-descents (thread ∷ []) = 0
-descents (thread ∷ next ∷ rest) = (if nat_lt next thread then 1 else 0) + descents (next ∷ rest)
 
 -- the steps, with these inputs, are a run of at most so many rounds that ends in this break
 pub record IsBrokenRun (flat : FlatProgram) (rounds : ℕ) (run : List ℕ) (inputs : ℕ → ℕ → ℕ) (kind : BreakKind) (line : ℕ) : Type 0 where

@@ -1,4 +1,5 @@
-ghost use Rattle.std.specs.Prelude.{◌≡◌, ◌<◌, ◌≤◌, ◌+◌, ◌^◌, ◌++◌, ◌∷◌, [], length, count_by, OnOk, IfOk, Some, None, true, not, option_map};
+ghost use Rattle.std.specs.Prelude.{◌≡◌, ◌<◌, ◌≤◌, ◌+◌, ◌++◌, ◌∷◌, [], length, count_by, OnOk, IfOk, Some, None, true, not, option_map};
+ghost use Rattle.lz_base.specs.Limits.{file_limit};
 ghost use Rattle.lz_tree.specs.Pieces as pieces;
 ghost use Rattle.lz_tree.specs.Tokens.{behind_piece, body_kinds, opening, constant_kind};
 ghost use Rattle.lz_tree.specs.Tokens as tokens;
@@ -144,7 +145,7 @@ impl<'a> Cutting<'a> {
     }
 
     fn push_name(&mut self, name: &'a str) -> Result<(), Memory>
-        requires { length (cutting self.old).names < 2 ^ 20 }
+        requires { length (cutting self.old).names < file_limit }
         ensures { OnOk result (cutting self.new ≡ named (cutting self.old) name.now) }
     {
         let (index, _) = self.names.insert_full(name)?;
@@ -155,7 +156,7 @@ impl<'a> Cutting<'a> {
 
     /// The tokens of a name that is no keyword.
     fn push_other(&mut self, letters: &'a str) -> Result<(), Memory>
-        requires room { length (cutting self.old).names < 2 ^ 20 }
+        requires room { length (cutting self.old).names < file_limit }
         requires plain { pieces.keyword_of letters.now ≡ None }
         ensures { OnOk result (cutting self.new ≡ worded (cutting self.old) letters.now) }
     {
@@ -175,7 +176,7 @@ impl<'a> Cutting<'a> {
     }
 
     fn push_word(&mut self, letters: &'a str) -> Result<(), Memory>
-        requires { length (cutting self.old).names < 2 ^ 20 }
+        requires { length (cutting self.old).names < file_limit }
         ensures { OnOk result (cutting self.new ≡ worded (cutting self.old) letters.now) }
     {
         match keyword_of(letters) {
@@ -193,7 +194,7 @@ impl<'a> Cutting<'a> {
     }
 
     fn push_piece(&mut self, piece: Piece<'a>) -> Result<(), Memory>
-        requires room { length (cutting self.old).names < 2 ^ 20 }
+        requires room { length (cutting self.old).names < file_limit }
         requires stands { tokens.may_stand (cutting self.old) (views.piece piece) ≡ true }
         ensures { OnOk result (cutting self.new ≡ pieced (cutting self.old) (views.piece piece.entry)) }
     {
@@ -214,7 +215,7 @@ impl<'a> Cutting<'a> {
     pub fn take(&mut self, piece: Piece<'a>, bytes: &[u8]) -> Result<(), Memory>
         requires within { IsWithin (cutting self.old) }
         requires some { 0 < length bytes.now }
-        requires room { self.old.place + length bytes.now ≤ 2 ^ 20 }
+        requires room { self.old.place + length bytes.now ≤ file_limit }
         requires stands { tokens.may_stand (cutting self.old) (views.piece piece) ≡ true }
         ensures { OnOk result (cutting self.new ≡ behind_piece (cutting self.old) (views.piece piece.entry) bytes.now) }
     {

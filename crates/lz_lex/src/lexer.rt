@@ -1,4 +1,5 @@
 ghost use Rattle.std.specs.Prelude.{◌≡◌, ◌≤◌, ◌^◌, ℕ, length, IfOk, Err};
+ghost use Rattle.lz_base.specs.Limits.{file_limit};
 ghost use Rattle.lz_tree.specs.Tokens.{HasTokens, cut, stopped};
 ghost use Rattle.lz_lex.specs.declared.error.LexError.TheVariants.{Bad};
 
@@ -17,7 +18,7 @@ fn bad(place: u32, line: u32) -> LexError
 /// The tokens of a file (C99 6.4): its bytes are cut into pieces, each the longest that can stand where it
 /// begins, and defined names are replaced. Takes time and memory linear in the file.
 pub fn lex(alloc: Global, bytes: &[u8]) -> Result<Tokens, LexError>
-    requires { length bytes.now ≤ 1048576 }
+    requires { length bytes.now ≤ file_limit }
     // What is answered are the tokens of the bytes.
     ensures tokens { IfOk result (HasTokens bytes.now) }
     // The bytes have no cut exactly where this is answered; the place is where the longest cut ends.

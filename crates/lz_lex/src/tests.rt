@@ -8,7 +8,7 @@ const MAX: u64 = u64::MAX;
 
 /// The tokens of a text that is no longer than a file may be.
 fn cut(alloc: Global, text: &str) -> Result<lz_tree::Tokens, LexError> {
-    if text.len() > 1_048_576 {
+    if text.len() as u64 > lz_base::FILE_LIMIT {
         return Err(LexError::Memory);
     }
     lex(alloc, text.as_bytes())

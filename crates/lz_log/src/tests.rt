@@ -1,7 +1,3 @@
-ghost use Rattle.std.specs.Prelude.{◌<◌, IsTrue};
-ghost use Rattle.std.specs.List.{All};
-ghost use Rattle.lz_cnf.specs.Models.{IsFormula, variable_of};
-
 use super::*;
 use lz_base::Sequence;
 use lz_cnf::{Clause, Clauses, Cnf, Lit};
@@ -43,30 +39,6 @@ fn one_step(alloc: Global, lits: &[u32], hints: &[u32]) -> Result<Log, Fail> {
     Ok(log)
 }
 
-/// Whether each literal's variable is below the number.
-fn are_below(count: u32, clause: &[Lit]) -> bool
-    ensures { IsTrue result → All (λ lit. variable_of lit < count) clause.now }
-{
-    for lit in clause {
-        if lit.variable() >= count {
-            return false;
-        }
-    }
-    true
-}
-
-/// Whether each literal's variable is one of the formula's.
-fn is_formula(formula: &Cnf) -> bool
-    ensures { IsTrue result → IsFormula formula.now }
-{
-    for clause in formula.clauses.items() {
-        if !are_below(formula.variables, clause.items()) {
-            return false;
-        }
-    }
-    true
-}
-
 /// Logs of one step, each with what its check answers: None where it refutes, else the bad step.
 #[test]
 fn logs_of_one_step(rt: HostRuntime) -> Result<(), Fail> {
@@ -81,7 +53,7 @@ fn logs_of_one_step(rt: HostRuntime) -> Result<(), Fail> {
         ("a variable that the formula lacks", &[2], &[1, 2], Some(0)),
     ];
     let formula = both(alloc)?;
-    assert!(rt; is_formula(&formula), "a formula");
+    assert!(rt; formula.is_formula(), "a formula");
     for (reason, lits, hints, wanted) in rows {
         let log = one_step(alloc, lits, hints)?;
         let mut scratch = Scratch::new(alloc, formula.variables).ok().ok_or("memory")?;

@@ -1,6 +1,6 @@
 -- Bounds on the rounds of a list of thread numbers.
 use Rattle.std.proofs.Common.{◌≡◌, ℕ, zero, suc, ◌≤◌, Bool, true, false, cond, ltb, List, [], ◌∷◌, length, replicate, refl, arith}
-use Rattle.lz_model.specs.Rounds.{descents}
+use Rattle.lz_base.specs.Descents.{descents}
 
 one_at_most : (b : Bool) → cond b 1 0 ≤ 1
 one_at_most true = omega arith

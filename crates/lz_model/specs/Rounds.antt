@@ -1,12 +1,7 @@
 -- Trusted: rounds, which under a round-robin schedule begin where the thread number goes down.
-use Rattle.std.specs.Prelude.{ℕ, ◌+◌, List, [], ◌∷◌, map, nat_lt, if◌then◌else◌}
+use Rattle.std.specs.Prelude.{ℕ, ◌+◌, List, map}
+use Rattle.lz_base.specs.Descents.{descents}
 use Rattle.lz_model.specs.declared.schedule.Step.{Step}
-
--- how many neighbours there are of which the second is smaller
-abbrev pub descents : List ℕ → ℕ
-descents [] = 0
-descents (thread ∷ []) = 0
-descents (thread ∷ next ∷ threads) = (if nat_lt next thread then 1 else 0) + descents (next ∷ threads)
 
 -- the rounds of a list of thread numbers
 abbrev pub rounds_of : List ℕ → ℕ

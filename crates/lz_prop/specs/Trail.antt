@@ -3,7 +3,7 @@ use Rattle.std.specs.Prelude.{◌≡◌, ◌≢◌, ◌⊎◌, ℕ, suc, ◌<◌
 use Rattle.std.specs.List.{All, AllPairs, Contains, filter}
 use Rattle.lz_cnf.specs.declared.clause.Lit.{Lit}
 use Rattle.lz_cnf.specs.declared.clause.Cnf.{Cnf}
-use Rattle.lz_cnf.specs.Models.{variable_of, is_negated}
+use Rattle.lz_cnf.specs.Models.{variable_of, is_negated, NoneEmpty}
 use Rattle.lz_cnf.specs.Partial.{IsFalseLit, IsOpen, IsQuiet, IsFalseClause, IsNamed}
 
 -- A literal that is true: the level at which it was set, and the number of the clause that made it true, if a
@@ -62,7 +62,7 @@ HasReason clauses before e = IfSome e.reason (RestsOn clauses before e.lit)
 pub record IsTrail (s : TrailState) : Type 0 where
   -- kept clauses and true literals have only the trail's variables, and no kept clause is empty
   pub formula : All (All (λ l. variable_of l < s.variables)) s.clauses
-  pub not_empty : All (λ c. c ≢ []) s.clauses
+  pub not_empty : NoneEmpty s.clauses
   pub known : All (λ e. variable_of e.lit < s.variables) s.set
   -- no variable stands twice in the order
   pub apart : AllPairs (λ a b. variable_of a.lit ≢ variable_of b.lit) s.set

@@ -1,7 +1,7 @@
 ghost use Rattle.std.specs.Prelude.{◌≡◌, ◌≢◌, ℕ, suc, ◌+◌, ◌*◌, ◌<◌, ◌≤◌, [], ◌∷◌, ◌++◌, length, List, slice_index_or, IsTrue, IsErr, IfOk, OnOk, OnErr};
 ghost use Rattle.std.specs.List.{All};
 ghost use Rattle.lz_cnf.specs.declared.clause.Lit.{Lit};
-ghost use Rattle.lz_cnf.specs.Models.{variable_of, negated, IsFormula};
+ghost use Rattle.lz_cnf.specs.Models.{variable_of, negated, IsFormula, NoneEmpty};
 ghost use Rattle.lz_cnf.specs.Partial.{IsUnassigned, IsQuiet};
 ghost use Rattle.lz_prop.specs.Trail.{RestsOn, literals, opening, decided, gone_back, with_clause, given_up, WasOpen};
 ghost use Rattle.lz_prop.specs.Stored.{IsStore, clauses_of};
@@ -51,7 +51,7 @@ impl Inner {
     /// The parts of a trail with the formula's clauses and nothing set.
     pub fn new(alloc: Global, formula: &Cnf) -> Result<Inner, Memory>
         requires formula { IsFormula formula.now }
-        requires not_empty { All (λ c. c ≢ []) formula.now.clauses }
+        requires not_empty { NoneEmpty formula.now.clauses }
         ensures kept { IfOk result (λ t. IsKept t) }
         ensures state { IfOk result (λ t. state_of t ≡ opening formula.now) }
     {

@@ -1,7 +1,3 @@
-ghost use Rattle.std.specs.Prelude.{◌≢◌, ◌<◌, [], IsTrue};
-ghost use Rattle.std.specs.List.{All};
-ghost use Rattle.lz_cnf.specs.Models.{IsFormula, variable_of};
-
 use super::*;
 use lz_cnf::{Clause, Clauses, Cnf, Lit};
 use std::alloc::Global;
@@ -17,42 +13,6 @@ fn formula_of(alloc: Global, variables: u32, rows: &[(u32, u32)]) -> Result<Cnf,
         clauses.push(clause).ok().ok_or("memory")?;
     }
     Ok(Cnf { variables, clauses })
-}
-
-/// Whether each literal's variable is below the number.
-fn are_below(count: u32, clause: &[Lit]) -> bool
-    ensures { IsTrue result → All (λ lit. variable_of lit < count) clause.now }
-{
-    for lit in clause {
-        if lit.variable() >= count {
-            return false;
-        }
-    }
-    true
-}
-
-/// Whether each literal's variable is one of the formula's.
-fn is_formula(formula: &Cnf) -> bool
-    ensures { IsTrue result → IsFormula formula.now }
-{
-    for clause in formula.clauses.items() {
-        if !are_below(formula.variables, clause.items()) {
-            return false;
-        }
-    }
-    true
-}
-
-/// Whether no clause of the formula is empty.
-fn is_filled(formula: &Cnf) -> bool
-    ensures { IsTrue result → All (λ c. c ≢ []) formula.now.clauses }
-{
-    for clause in formula.clauses.items() {
-        if clause.items().is_empty() {
-            return false;
-        }
-    }
-    true
 }
 
 /// What propagation finds before any decision.
@@ -77,8 +37,8 @@ fn propagates_at_the_start(rt: HostRuntime) -> Result<(), Fail> {
     ];
     for (reason, clauses, wanted, set) in rows {
         let formula = formula_of(alloc, 2, clauses)?;
-        assert!(rt; is_formula(&formula), "a formula");
-        assert!(rt; is_filled(&formula), "no empty clause");
+        assert!(rt; formula.is_formula(), "a formula");
+        assert!(rt; formula.has_no_empty_clause(), "no empty clause");
         let mut trail = Trail::new(alloc, &formula).ok().ok_or("memory")?;
         let found = trail.propagate().ok().ok_or("memory")?;
         assert_eq!(rt; found, wanted, "{reason}");

@@ -1,6 +1,6 @@
 ghost use Rattle.std.specs.Prelude.{◌≡◌, ◌≢◌, ℕ, ◌+◌, ◌^◌, ◌<◌, ◌≤◌, [], length, slice_get, IfOk};
 ghost use Rattle.std.specs.List.{All};
-ghost use Rattle.lz_cnf.specs.Models.{IsFormula};
+ghost use Rattle.lz_cnf.specs.Models.{IsFormula, NoneEmpty};
 ghost use Rattle.lz_cnf.specs.Partial.{IsQuiet};
 ghost use Rattle.lz_prop.specs.Trail.{IsFalseNamed, literals, entry_of, value_in};
 ghost use Rattle.lz_solve.specs.Solving.{IsSolved};
@@ -172,7 +172,7 @@ fn take_turn(
 /// follow.
 pub fn solve(alloc: Global, formula: &Cnf, conflicts: u64) -> Result<Solved, Memory>
     requires formula { IsFormula formula.now }
-    requires not_empty { All (λ c. c ≢ []) formula.now.clauses }
+    requires not_empty { NoneEmpty formula.now.clauses }
     requires conflicts { 1 ≤ conflicts }
     requires room { length formula.now.clauses + conflicts < 2 ^ 32 }
     ensures { IfOk result (λ s. IsSolved formula.now conflicts s) }

@@ -1,7 +1,3 @@
-ghost use Rattle.std.specs.Prelude.{◌≢◌, ℕ, ◌<◌, [], IsTrue};
-ghost use Rattle.std.specs.List.{All};
-ghost use Rattle.lz_cnf.specs.Models.{variable_of, IsFormula};
-
 use crate::{Solved, solve};
 use lz_analyze::learn;
 use lz_base::{Memory, Sequence};
@@ -29,37 +25,14 @@ fn formula(alloc: Global, variables: u32, numbers: &[u32]) -> Result<Cnf, Memory
     Ok(Cnf { variables, clauses })
 }
 
-/// Whether the clause has only variables below this number.
-fn has_only(clause: &[Lit], variables: u32) -> bool
-    ensures { IsTrue result → All (λ lit. variable_of lit < variables) clause.now }
-{
-    for lit in clause {
-        if lit.0 / 2 >= variables {
-            return false;
-        }
-    }
-    true
-}
-
-/// Whether the clauses have only the formula's variables and none is empty.
-fn is_fit(cnf: &Cnf) -> bool
-    ensures formula { IsTrue result → IsFormula cnf.now }
-    ensures not_empty { IsTrue result → All (λ c. c ≢ []) cnf.now.clauses }
-{
-    for clause in cnf.clauses.items() {
-        if clause.items().is_empty() {
-            return false;
-        }
-        if !has_only(clause.items(), cnf.variables) {
-            return false;
-        }
-    }
-    true
-}
-
 /// The kind of the answer, and the number of its values or steps.
 fn answer(alloc: Global, cnf: &Cnf, conflicts: u64) -> Result<(&'static str, usize), Memory> {
-    if !is_fit(cnf) || conflicts < 1 || conflicts > 1000000 || cnf.clauses.items().len() > 1000000 {
+    if !cnf.is_formula()
+        || !cnf.has_no_empty_clause()
+        || conflicts < 1
+        || conflicts > 1000000
+        || cnf.clauses.items().len() > 1000000
+    {
         return Err(Memory);
     }
     match solve(alloc, cnf, conflicts)? {
@@ -169,7 +142,7 @@ fn answers_with_ample_memory(rt: HostRuntime) -> Result<(), Fail> {
 
 /// What propagation finds in a formula, and how many literals are then true.
 fn found(alloc: Global, cnf: &Cnf) -> Result<(Propagated, usize), Memory> {
-    if !is_fit(cnf) {
+    if !cnf.is_formula() || !cnf.has_no_empty_clause() {
         return Err(Memory);
     }
     let mut trail = Trail::new(alloc, cnf)?;
@@ -179,7 +152,7 @@ fn found(alloc: Global, cnf: &Cnf) -> Result<(Propagated, usize), Memory> {
 
 /// What is learnt where propagation refutes a formula: how many literals and hints, and the level.
 fn learnt_at_zero(alloc: Global, cnf: &Cnf) -> Result<(usize, usize, u32), Memory> {
-    if !is_fit(cnf) {
+    if !cnf.is_formula() || !cnf.has_no_empty_clause() {
         return Err(Memory);
     }
     let mut trail = Trail::new(alloc, cnf)?;
@@ -198,7 +171,7 @@ fn learnt_at_zero(alloc: Global, cnf: &Cnf) -> Result<(usize, usize, u32), Memor
 
 /// The number of a clause that is added to those of a formula, and what propagation then finds.
 fn added(alloc: Global, cnf: &Cnf) -> Result<(u32, Propagated), Memory> {
-    if !is_fit(cnf) || cnf.variables < 1 {
+    if !cnf.is_formula() || !cnf.has_no_empty_clause() || cnf.variables < 1 {
         return Err(Memory);
     }
     let mut trail = Trail::new(alloc, cnf)?;

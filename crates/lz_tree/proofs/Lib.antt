@@ -1,3 +1,4 @@
 pub mod TreesLemmas
 pub mod HeightLemmas
 pub mod Witnesses
+pub mod FirstFormLemmas

@@ -1,6 +1,7 @@
 pub mod FirstFormTokens
 pub mod FirstFormScopes
 pub mod FirstForm
+pub mod FirstFormTrees
 pub mod Pieces
 pub mod Tokens
 pub mod Trees

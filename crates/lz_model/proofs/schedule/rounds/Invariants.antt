@@ -1,5 +1,5 @@
 use Rattle.std.proofs.Common.{◌≡◌, ◌+◌, ◌∷◌, map, drop}
-use Rattle.lz_model.specs.Rounds.{descents}
+use Rattle.lz_base.specs.Descents.{descents}
 use Rattle.lz_model.proofs.schedule.rounds.Given as goal
 
 -- the descents so far, and those from the thread before on, are all

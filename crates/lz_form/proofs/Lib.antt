@@ -1,0 +1,5 @@
+mod AssertionLemmas
+mod ErrorLemmas
+mod StatementsLemmas
+mod SumLemmas
+mod ProgramLemmas

@@ -1,0 +1,6 @@
+-- Inner: what the table of declared objects is.
+use Rattle.lz_tree.specs.FirstFormTrees as form
+use Rattle.lz_form.specs.declared.declared.Declared.{Declared}
+
+abbrev pub declared_of : Declared → form.Declared
+declared_of d = record { names = d.names.keys; values = d.values }
