@@ -1,0 +1,3 @@
+pub mod HeadingsLemmas
+pub mod ExternalsLemmas
+pub mod ProgramsLemmas
