@@ -12,6 +12,7 @@ mod typename;
 
 pub use error::ParseError;
 pub use expression::{ASSIGN, CHOOSE, UNARY, read_class};
+pub use opening::{Opening, opened_by};
 pub use parse::{line_of, one_expression, parse_expression};
 pub use refusal::Refusal;
 pub use token::{begins, begins_key, is_key, is_mark, key, line_at, mark, name};

@@ -1,6 +1,7 @@
 ghost use Rattle.std.specs.Prelude.{◌≡◌};
 ghost use Rattle.lz_expr.specs.declared.refusal.Refusal.TheVariants as refusals;
 
+use lz_base::Memory;
 use std::alloc::{AllocError, AllocFailed};
 
 /// Why a reader of tokens gave nothing.
@@ -24,6 +25,14 @@ impl<T: Drop> From<AllocFailed<T>> for Refusal {
     ghost from_gives = { λ _ e. e ≡ refusals.Memory };
 
     fn from(_error: AllocFailed<T>) -> Refusal {
+        Refusal::Memory
+    }
+}
+
+impl From<Memory> for Refusal {
+    ghost from_gives = { λ _ e. e ≡ refusals.Memory };
+
+    fn from(_error: Memory) -> Refusal {
         Refusal::Memory
     }
 }

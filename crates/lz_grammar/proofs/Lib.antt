@@ -9,3 +9,6 @@ pub mod ForLemmas
 pub mod StatementHeightsLemmas
 pub mod ParamsLemmas
 pub mod UniqueLemmas
+pub mod ValuesLoopLemmas
+pub mod PartsLemmas
+pub mod LabelLemmas

@@ -1,3 +1,4 @@
 pub mod HeadingsLemmas
 pub mod ExternalsLemmas
 pub mod ProgramsLemmas
+pub mod LoopsLemmas

@@ -11,13 +11,16 @@ use Rattle.lz_tree.specs.Height.{greatest, external_height}
 use Rattle.lz_tree.specs.WellFormed.{FitsExternal, IsWellFormed}
 use Rattle.lz_expr.specs.Fronts.{Viable, line_of}
 use Rattle.lz_expr.specs.Reading.{Outcome, gives, refused, and_then, ◌>>=◌, pure}
+use Rattle.lz_expr.specs.declared.error.ParseError.{ParseError}
+use Rattle.lz_expr.specs.declared.error.ParseError.TheVariants.{NotAProgram, Memory}
 use Rattle.lz_expr.proofs.ExactLemmas.{Exact, exact_bind, exact_map}
 use Rattle.lz_expr.proofs.RowsLemmas.{Row, made, along, row_of}
 use Rattle.lz_expr.proofs.ManyLemmas.{many_text, exact_many}
 use Rattle.lz_expr.proofs.WholeLemmas.{unique, refused_there, found_there}
 use Rattle.lz_expr.proofs.TokensLemmas.{no_text}
 use Rattle.lz_program.specs.Grammar.{begins_external, external, more_externals, externals, closed, program, height_limit, InExternal, InProgram}
-use Rattle.lz_program.specs.Programs.{IsProgram, BeginsProgram, IsRefusedAt}
+use Rattle.lz_program.specs.Programs.{IsProgram, BeginsProgram, IsRefusedAt, IsNoProgram}
+use Rattle.lz_program.specs.Views.{IsNamedAt}
 use Rattle.lz_program.proofs.ExternalsLemmas.{never, row_external, external_heads, external_begins}
 
 -- another external declaration may always come
@@ -193,46 +196,78 @@ begins_to ts (es, s, m) = record { program = record { externals = es; names = []
 begins_from : (ts : List Token) → BeginsProgram ts → Viable Limited ts
 begins_from ts b = (b.program.externals, b.behind, limited b.program (ts ++ b.behind) b.well_formed b.spells)
 
+limit_is : height_limit ≡ 200
+unfolding height_limit
+limit_is = refl
+
 -- what is answered with the names of the tokens is their program
-pub is_program : (tokens : Tokens) (es : List ExternalDeclaration) (left : List Token) (names : List (List ℕ)) → program height_limit tokens.list ≡ gives es left → names ≡ tokens.names → IsProgram tokens (record { externals = es; names = names })
-is_program tokens es left names e same = let f = program_found height_limit limit_some tokens.list es left e in record { well_formed = well_formed es names tokens.list f.1; spells = record { externals = f.1.spells; names = same } }
+pub is_program : (tokens : Tokens) (items : List Token) (es : List ExternalDeclaration) (names : List (List ℕ)) → items ≡ tokens.list → program 200 items ≡ gives es [] → names ≡ tokens.names
+    → IsProgram tokens (record { externals = es; names = names })
+is_program tokens items es names list e same =
+    let read : program height_limit tokens.list ≡ gives es [] = subst (λ (h : ℕ). program h tokens.list ≡ gives es []) (sym limit_is) (ap (program 200) (sym list) ∙ e) in
+    let f = program_found height_limit limit_some tokens.list es [] read in
+    record { well_formed = well_formed es names tokens.list f.1; spells = record { externals = f.1.spells; names = same } }
 
--- what is refused is refused there
-pub is_refused : (tokens : Tokens) (n line : ℕ) → program height_limit tokens.list ≡ refused n → line ≡ line_of tokens (length tokens.list - n) → IsRefusedAt tokens (length tokens.list - n) line
-is_refused tokens n line e place = by_stops tokens.list refl (program_stops height_limit limit_some tokens.list n e)
-  where
-    by_stops : (ts : List Token) → tokens.list ≡ ts → Stops height_limit ts n → IsRefusedAt tokens (length tokens.list - n) line
-    by_stops ts list k = record {
-      within = omega arith;
-      before = begins_to (take (length tokens.list - n) tokens.list) (subst (λ (w : List Token). Viable Limited w) (sym front) k.viable);
-      stops = λ more b.
-          let c = first_left more in
-          k.next c.0 c.1 c.2 (subst (λ (w : List Token). Viable Limited w) (longer c.0 c.1 c.2) (begins_from (take (length tokens.list - n + 1) tokens.list) b));
-      none = λ p m. k.none p.externals (subst (λ (w : List Token). Limited p.externals w) list (limited p tokens.list m.well_formed m.spells.externals));
-      place = place;
-    }
-      where
-        total : length tokens.list ≡ length k.read + length k.left
-        total = ap length (list ∙ k.same) ∙ length-append k.read k.left
+stops_at : (items : List Token) (n : ℕ) → program 200 items ≡ refused n → Stops height_limit items n
+stops_at items n e = program_stops height_limit limit_some items n (subst (λ (h : ℕ). program h items ≡ refused n) (sym limit_is) e)
 
-        at : length tokens.list - n ≡ length k.read
-        at = let t = total in let c = k.count in omega arith
+-- no more tokens are left than there are
+pub refused_within : (items : List Token) (n : ℕ) → program 200 items ≡ refused n → n ≤ length items
+refused_within items n e =
+    let k = stops_at items n e in
+    let total : length items ≡ length k.read + length k.left = ap length k.same ∙ length-append k.read k.left in
+    let count = k.count in omega arith
 
-        front : take (length tokens.list - n) tokens.list ≡ k.read
-        front = rw (at, list ∙ k.same) (take_at k.read k.left (length k.read) refl)
+module _ (tokens : Tokens) (n : ℕ) (e : program 200 tokens.list ≡ refused n) where
+  k : Stops height_limit tokens.list n
+  k = stops_at tokens.list n e
 
-        longer : (c : Token) (r : List Token) → k.left ≡ c ∷ r → take (length tokens.list - n + 1) tokens.list ≡ k.read ++ c ∷ []
-        longer c r is =
-            let wide : length tokens.list - n + 1 ≡ length (k.read ++ c ∷ []) = (let a = at in let b : length (k.read ++ c ∷ []) ≡ length k.read + 1 = length-append k.read (c ∷ []) in omega arith) in
-            let texts : tokens.list ≡ (k.read ++ c ∷ []) ++ r = list ∙ k.same ∙ ap (λ (w : List Token). k.read ++ w) is ∙ sym (append_assoc k.read (c ∷ []) r) in
-            rw (wide, texts) (take_at (k.read ++ c ∷ []) r (length (k.read ++ c ∷ [])) refl)
+  abbrev at : ℕ
+  at = length tokens.list - n
 
-        first_left : length tokens.list - n < length tokens.list → (c : Token) × (r : List Token) × (k.left ≡ c ∷ r)
-        first_left more = by_left k.left refl
-          where
-            by_left : (w : List Token) → k.left ≡ w → (c : Token) × (r : List Token) × (k.left ≡ c ∷ r)
-            by_left [] is = let none : length k.left ≡ 0 = ap length is in let a = at in let t = total in absurd (omega arith)
-            by_left (c ∷ r) is = (c, r, is)
+  total : length tokens.list ≡ length k.read + length k.left
+  total = ap length k.same ∙ length-append k.read k.left
+
+  at_is : at ≡ length k.read
+  at_is = let t = total in let c = k.count in omega arith
+
+  front : take at tokens.list ≡ k.read
+  front = ap (λ (w : List Token). take at w) k.same ∙ ap (λ (i : ℕ). take i (k.read ++ k.left)) at_is ∙ take_at k.read k.left (length k.read) refl
+
+  longer : (c : Token) (r : List Token) → k.left ≡ c ∷ r → take (at + 1) tokens.list ≡ k.read ++ c ∷ []
+  longer c r is =
+      let wide : at + 1 ≡ length (k.read ++ c ∷ []) = (let a = at_is in let b : length (k.read ++ c ∷ []) ≡ length k.read + 1 = length-append k.read (c ∷ []) in omega arith) in
+      let texts : tokens.list ≡ (k.read ++ c ∷ []) ++ r = k.same ∙ ap (λ (w : List Token). k.read ++ w) is ∙ sym (append_assoc k.read (c ∷ []) r) in
+      ap (λ (w : List Token). take (at + 1) w) texts ∙ ap (λ (i : ℕ). take i ((k.read ++ c ∷ []) ++ r)) wide ∙ take_at (k.read ++ c ∷ []) r (length (k.read ++ c ∷ [])) refl
+
+  first_left : at < length tokens.list → (c : Token) × (r : List Token) × (k.left ≡ c ∷ r)
+  first_left more = by_left k.left refl
+    where
+      by_left : (w : List Token) → k.left ≡ w → (c : Token) × (r : List Token) × (k.left ≡ c ∷ r)
+      by_left [] is = let none : length k.left ≡ 0 = ap length is in let a = at_is in let t = total in absurd (omega arith)
+      by_left (c ∷ r) is = (c, r, is)
+
+  -- what is refused is refused there
+  is_refused : (line : ℕ) → line ≡ line_of tokens at → IsRefusedAt tokens at line
+  is_refused line place = record {
+    within = omega arith;
+    before = begins_to (take at tokens.list) (subst (λ (w : List Token). Viable Limited w) (sym front) k.viable);
+    stops = λ more b.
+        let c = first_left more in
+        k.next c.0 c.1 c.2 (subst (λ (w : List Token). Viable Limited w) (longer c.0 c.1 c.2) (begins_from (take (at + 1) tokens.list) b));
+    none = λ p m. k.none p.externals (limited p tokens.list m.well_formed m.spells.externals);
+    place = place;
+  }
+
+  -- and so is what names the place
+  no_program_at : (error : ParseError) → IsNamedAt tokens at error → IsNoProgram tokens error
+  no_program_at (NotAProgram token line) m = subst (λ (i : ℕ). IsRefusedAt tokens i line) (sym m.0) (is_refused line m.1)
+  no_program_at Memory m = tt
+
+-- an error that names the place of a refusal says that there is none
+pub no_program : (tokens : Tokens) (items : List Token) (n : ℕ) (error : ParseError) → items ≡ tokens.list → program 200 items ≡ refused n → IsNamedAt tokens (length items - n) error → IsNoProgram tokens error
+no_program tokens items n error list e m =
+    no_program_at tokens n (ap (program 200) (sym list) ∙ e) error (subst (λ (xs : List Token). IsNamedAt tokens (length xs - n) error) list m)
 
 -- no two well-formed programs spell the same tokens
 pub one : (tokens : Tokens) (p q : TranslationUnit) → IsProgram tokens p → IsProgram tokens q → p ≡ q

@@ -1,6 +1,6 @@
 -- Inner: reading external declarations and whole programs from the left (C99 6.9).
 use Rattle.std.specs.Prelude.{◌≢◌, ℕ, zero, suc, ◌≤◌, Bool, true, false, ◌&&◌, ◌||◌, not, List, [], ◌∷◌, length, Option, Some, None, is_some, if◌then◌else◌}
-use Rattle.std.specs.List.{AllByRecursion}
+use Rattle.std.specs.List.{AllByRecursion, list_all}
 use Rattle.lz_expr.specs.Reading.{gives, refused, Reader, and_then, ◌>>=◌, pure, refuse, token, starts, shows, optional, many}
 use Rattle.lz_expr.specs.Grammar.{mark, name, key_meant, expr}
 use Rattle.lz_grammar.specs.Grammar.{begins_type, lined_type, declarator_from, more_declarators, blocked, stmt, params}
@@ -71,8 +71,7 @@ is_outside _ = false
 
 -- each parameter has a name
 abbrev pub all_named : List Param → Bool
-all_named [] = true
-all_named (p ∷ rest) = is_some p.name && all_named rest
+all_named ps = list_all (λ p. is_some p.name) ps
 
 -- a body may stand behind the parameters: not behind `extern`, nor where a parameter has no name
 abbrev pub may_define : Heading → List Param × Bool → Bool

@@ -2,6 +2,13 @@
 //! which none goes on (C99 6.9).
 #![tactic(auto)]
 
+mod external;
+mod heading;
+mod names;
 mod program;
 
-pub use program::one_program;
+pub use lz_expr::ParseError;
+pub use program::{one_program, parse};
+
+#[cfg(test)]
+mod tests;
