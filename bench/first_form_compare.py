@@ -3,7 +3,8 @@
 Run it from the top of the repository: bench/first_form_compare.py [SEED [FILES]]
 
 The evaluator below reads the text by a regular expression for each statement and knows nothing of the
-program's tokens, trees or traces."""
+program's tokens, trees or traces. Of a text that is not of the form it expects one of the refusals: no token, no
+program, or a form that is not built."""
 
 import os
 import random
@@ -25,16 +26,20 @@ RESERVED = set(
     main""".split()
 )
 WORD = r"[A-Za-z_][A-Za-z0-9_]*"
-NUMBER = r"(?:0|[1-9][0-9]*)(?![A-Za-z0-9_])"
-GAP = r"[ \t\n]*"
+NUMBER = r"(?:0+|[1-9][0-9]*)(?![A-Za-z0-9_])"
+BLANK = r"(?:[ \t\n\r]|/\*(?:(?!\*/)[\s\S])*\*/|//[^\n]*\n)"
+GAP = rf"{BLANK}*"
 OPERAND = rf"(?:{WORD}|{NUMBER})"
 SUM = rf"{OPERAND}(?:{GAP}\+(?!\+){GAP}{OPERAND})*"
-DECLARATION = re.compile(rf"{GAP}int[ \t\n]+({WORD}){GAP}(?:=(?!=){GAP}({NUMBER}){GAP})?;")
-HEAD = re.compile(rf"{GAP}int[ \t\n]+main{GAP}\({GAP}void{GAP}\){GAP}\{{")
+DECLARATION = re.compile(rf"{GAP}int{BLANK}+({WORD}){GAP}(?:=(?!=){GAP}({NUMBER}){GAP})?;")
+HEAD = re.compile(rf"{GAP}int{BLANK}+main{GAP}\({GAP}void{GAP}\){GAP}\{{")
 ASSIGNMENT = re.compile(rf"{GAP}({WORD}){GAP}=(?!=){GAP}({SUM}){GAP};")
 ASSERTION = re.compile(rf"{GAP}(assert){GAP}\({GAP}({SUM}){GAP}==(?!=){GAP}({SUM}){GAP}\){GAP};")
-END = re.compile(rf"{GAP}\}}{GAP}\Z")
-NOT_BUILT = ("NOTBUILT line 0\n", 12)
+END = re.compile(rf"{GAP}\}}{GAP}(?://[^\n]*)?\Z")
+REFUSALS = {
+    12: re.compile(r"NOTBUILT line 0\n\Z"),
+    4: re.compile(r"SOURCE line ([1-9][0-9]*) (?:byte (?:0|[1-9][0-9]*): not a token|token (?:0|[1-9][0-9]*): not a program)\n\Z"),
+}
 
 
 class NotTheForm(Exception):
@@ -42,7 +47,7 @@ class NotTheForm(Exception):
 
 
 def operands(text):
-    return re.findall(OPERAND, text)
+    return re.findall(OPERAND, re.sub(BLANK, " ", text))
 
 
 def value(text, values):
@@ -108,11 +113,17 @@ def expected(text):
                     return f"FAILED\ncheck assert line {line}\nrounds 1\n" + "step 0 0\n" * steps, 1
         return "SUCCESSFUL unwind 2 rounds 2\n", 0
     except NotTheForm:
-        return NOT_BUILT
+        return None
+
+
+def is_refusal(text, report, status):
+    """Whether the report is a refusal of its status, on a line that the text has."""
+    match = REFUSALS[status].match(report) if status in REFUSALS else None
+    return match is not None and (status == 12 or int(match.group(1)) <= text.count("\n") + 1)
 
 
 def gap(rng):
-    return "".join(rng.choice(" \t\n ") for _ in range(rng.choice([0, 1, 1, 2])))
+    return "".join(rng.choice([" ", "\t", "\n", " ", "/* int */", "// x\n"]) for _ in range(rng.choice([0, 1, 1, 2])))
 
 
 def operand(rng, names):
@@ -181,9 +192,9 @@ def main():
             done = subprocess.run([PROGRAM, path], stdout=subprocess.PIPE, check=False)
             got = (done.stdout.decode(), done.returncode)
             want = expected(text)
-            if got != want:
-                sys.exit(f"seed {seed}, file {number}:\n{text!r}\nwanted {want}\ngot    {got}")
-            counts[want[1]] = counts.get(want[1], 0) + 1
+            if got != want if want else not is_refusal(text, *got):
+                sys.exit(f"seed {seed}, file {number}:\n{text!r}\nwanted {want or 'a refusal'}\ngot    {got}")
+            counts[got[1]] = counts.get(got[1], 0) + 1
     print(f"{files} files agree; by status: {dict(sorted(counts.items()))}")
 
 

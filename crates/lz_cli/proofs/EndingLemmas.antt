@@ -1,8 +1,12 @@
 -- Verdicts and endings are lawful.
-use Rattle.std.proofs.Common.{◌≡◌, ℕ, ◌<◌, ◌^◌, List, length, refl, arith}
+use Rattle.std.proofs.Common.{◌≡◌, ℕ, ◌<◌, ◌^◌, List, length, Some, None, refl, arith}
 use Rattle.lz_base.specs.declared.word.BreakKind.{BreakKind}
 use Rattle.lz_tree.specs.FirstFormScopes.{Program}
-use Rattle.lz_tree.specs.FirstForm.{IsFirstForm}
+use Rattle.lz_tree.specs.FirstFormTrees.{first_form}
+use Rattle.lz_tree.specs.declared.token.Tokens.{Tokens}
+use Rattle.lz_tree.specs.Tokens.{HasTokens}
+use Rattle.lz_tree.specs.Trees.{TranslationUnit}
+use Rattle.lz_program.specs.Programs.{IsProgram, IsRefusedAt}
 use Rattle.lz_model.specs.declared.schedule.Step.{Step}
 use Rattle.lz_model.specs.Rounds.{rounds_of, threads_of}
 use Rattle.lz_cnf.specs.declared.clause.Cnf.{Cnf}
@@ -12,11 +16,24 @@ use Rattle.lz_log.specs.Refutation.{Refutes}
 use Rattle.lz_cli.specs.declared.decide.Decided.TheVariants.{Holds, Broken}
 use Rattle.lz_cli.specs.Decide.{Decides}
 use Rattle.lz_cli.specs.Limits.{defaults}
+use Rattle.lz_cli.specs.Source.{HasTree, HasNoTree, IsFirstForm}
 use Rattle.lz_cli.specs.Ending.{IsSuccess, IsFailure, IsNotBuilt}
 
--- bytes that spell no program
-pub not_built : {bytes : List ℕ} → ((p : Program) → IsFirstForm bytes p → ⊥) → IsNotBuilt bytes 0
-not_built no_form = record { no_form = no_form; no_line = refl }
+-- bytes whose tree has another form
+pub not_built : {bytes : List ℕ} {tree : TranslationUnit} → HasTree bytes tree → first_form tree ≡ None → IsNotBuilt bytes 0
+not_built {bytes} {tree} of form = record { other_form = record { tree = tree; of = of; form = form }; no_line = refl }
+
+-- bytes whose tree has the first form
+pub is_form : {bytes : List ℕ} {tree : TranslationUnit} {p : Program} → HasTree bytes tree → first_form tree ≡ Some p → IsFirstForm bytes p
+is_form {bytes} {tree} of form = record { tree = tree; of = of; form = form }
+
+-- bytes whose tokens a tree spells
+pub has_tree : {bytes : List ℕ} {tokens : Tokens} {tree : TranslationUnit} → HasTokens bytes tokens → IsProgram tokens tree → HasTree bytes tree
+has_tree {bytes} {tokens} are spelled = record { tokens = tokens; are = are; spelled = spelled }
+
+-- bytes whose tokens no tree spells
+pub has_no_tree : {bytes : List ℕ} {tokens : Tokens} {line token : ℕ} → HasTokens bytes tokens → IsRefusedAt tokens token line → HasNoTree bytes line token
+has_no_tree {bytes} {tokens} are refused = record { tokens = tokens; are = are; refused = refused }
 
 -- a program that holds, and the least refutation
 pub success : {bytes : List ℕ} {p : Program} {formula : Cnf} {log : List LogStep} → IsFirstForm bytes p → Decides p Holds → IsFormula formula → Refutes formula log → (HasModel formula → ⊥) → length log ≡ 1 → IsSuccess defaults bytes 2 2 formula log

@@ -4,17 +4,22 @@ use Rattle.lz_base.specs.declared.word.BreakKind.{BreakKind}
 use Rattle.lz_outside.specs.Faults.{Rose}
 use Rattle.lz_outside.specs.Files.{FileMap, Lacks, Tells, Holds, IsLonger}
 use Rattle.lz_tree.specs.FirstFormScopes.{Program}
-use Rattle.lz_tree.specs.FirstForm.{IsFirstForm}
+use Rattle.lz_tree.specs.declared.token.Tokens.{Tokens}
+use Rattle.lz_tree.specs.Tokens.{HasTokens}
+use Rattle.lz_tree.specs.Trees.{TranslationUnit}
+use Rattle.lz_program.specs.Programs.{IsProgram, IsRefusedAt}
 use Rattle.lz_model.specs.declared.schedule.Step.{Step}
 use Rattle.lz_model.specs.Violation.{Violated}
 use Rattle.lz_model.proofs.ViolationLemmas.{rounds_of_run-follows}
 use Rattle.lz_cli.specs.declared.ending.Ending.{Ending}
-use Rattle.lz_cli.specs.declared.ending.Ending.TheVariants.{Successful, Failed, NotBuilt, FileTooLong, ReadFault, OutOfMemory}
+use Rattle.lz_cli.specs.declared.ending.Ending.TheVariants.{Successful, Failed, NotAToken, NotAProgram, NotBuilt, FileTooLong, ReadFault, OutOfMemory}
 use Rattle.lz_cli.specs.CommandLine.{IsFileName}
 use Rattle.lz_base.specs.Limits.{file_limit}
 use Rattle.lz_cli.specs.Limits.{defaults}
-use Rattle.lz_cli.specs.Ending.{Call, IsSource, IsFailure, IsLawful, NamesNoFile}
-use Rattle.lz_cli.specs.Exactness.{IsToldFile, IsDecided, IsEither}
+use Rattle.lz_cli.specs.Source.{HasNoTokens, HasTree, IsFirstForm, IsOtherForm}
+use Rattle.lz_cli.specs.Ending.{Call, IsSource, IsVerdict, IsFailure, IsLawful, NamesNoFile}
+use Rattle.lz_cli.specs.Exactness.{IsToldFile, IsDecided, IsRefusal, IsEither}
+use Rattle.lz_cli.proofs.SourceLemmas.{OneTree, one_tokens, no_tokens, one_place, no_tree, one_meaning, no_other}
 
 first_of : List (List ℕ) → List ℕ
 first_of [] = []
@@ -71,28 +76,104 @@ long_told call content name told named longer =
 
 -- ---- the laws
 
-abbrev pub OneProgram : Type 0
-OneProgram = (bytes : List ℕ) (p q : Program) → IsFirstForm bytes p → IsFirstForm bytes q → p ≡ q
-
-form_here : (content bytes : List ℕ) (p : Program) → bytes ≡ content → IsFirstForm content p → IsFirstForm bytes p
-form_here content bytes p same form = subst (λ (b : List ℕ). IsFirstForm b p) (sym same) form
-
-pub not_built_ends : (call : Call) (content : List ℕ) (ending : Ending) → IsToldFile call content → length content ≤ file_limit → ((p : Program) → IsFirstForm content p → ⊥) → IsLawful call ending → IsEither (NotBuilt 0) ending
-not_built_ends call content (Successful unwind rounds formula log) told short none lawful =
-    absurd (none lawful.2.program (subst (λ (b : List ℕ). IsFirstForm b lawful.2.program) (source_bytes call content lawful.0 told lawful.1) lawful.2.form))
-not_built_ends call content (Failed kind line schedule) told short none lawful =
-    absurd (none lawful.2.program (subst (λ (b : List ℕ). IsFirstForm b lawful.2.program) (source_bytes call content lawful.0 told lawful.1) lawful.2.form))
-not_built_ends call content (NotBuilt line) told short none lawful =
-    ap NotBuilt (sym (⊎_elim (λ from. from.2.no_line) (λ words. words.1) lawful))
-not_built_ends call content FileTooLong told short none lawful =
+-- within the limit, what is lawful is the verdict on what is told
+told_verdict : (call : Call) (content : List ℕ) (ending : Ending) → IsToldFile call content → length content ≤ file_limit → IsLawful call ending → IsVerdict defaults content ending
+told_verdict call content (Successful unwind rounds formula log) told short lawful =
+    subst (λ (b : List ℕ). IsVerdict defaults b (Successful unwind rounds formula log)) (source_bytes call content lawful.0 told lawful.1) lawful.2
+told_verdict call content (Failed kind line schedule) told short lawful =
+    subst (λ (b : List ℕ). IsVerdict defaults b (Failed kind line schedule)) (source_bytes call content lawful.0 told lawful.1) lawful.2
+told_verdict call content (NotAToken line place) told short lawful =
+    subst (λ (b : List ℕ). IsVerdict defaults b (NotAToken line place)) (source_bytes call content lawful.0 told lawful.1) lawful.2
+told_verdict call content (NotAProgram line token) told short lawful =
+    subst (λ (b : List ℕ). IsVerdict defaults b (NotAProgram line token)) (source_bytes call content lawful.0 told lawful.1) lawful.2
+told_verdict call content (NotBuilt line) told short (inl lawful) =
+    subst (λ (b : List ℕ). IsVerdict defaults b (NotBuilt line)) (source_bytes call content lawful.0 told lawful.1) lawful.2
+told_verdict call content (NotBuilt line) told short (inr lawful) = absurd (lawful.0 told.name told.named)
+told_verdict call content FileTooLong told short lawful =
     let long = long_told call content lawful.name told lawful.named lawful.longer in absurd (omega arith)
-not_built_ends call content (ReadFault name) told short none lawful = absurd (no_fault call content name told lawful.named lawful.cause)
-not_built_ends call content OutOfMemory told short none lawful = tt
+told_verdict call content (ReadFault name) told short lawful = absurd (no_fault call content name told lawful.named lawful.cause)
+told_verdict call content OutOfMemory told short lawful = tt
+
+failure_violates : (bytes : List ℕ) (kind : BreakKind) (line : ℕ) (schedule : List Step) (failure : IsFailure defaults bytes kind line schedule) → Violated failure.program defaults.unwind defaults.rounds
+failure_violates bytes kind line schedule failure =
+    (failure.run, kind, line, failure.is_broken, omega (arith, rounds_of_run-follows failure.run schedule failure.follows, failure.within_rounds))
+
+-- a file of the first form
+decided_by : OneTree → (bytes : List ℕ) (p : Program) (ending : Ending) → IsFirstForm bytes p → IsVerdict defaults bytes ending → IsDecided p ending
+decided_by one bytes p (Successful unwind rounds formula log) form v =
+    subst (λ (q : Program). Violated q defaults.unwind defaults.rounds → ⊥) (one_meaning one bytes v.program p v.form form) v.not_violated
+decided_by one bytes p (Failed kind line schedule) form v =
+    subst (λ (q : Program). Violated q defaults.unwind defaults.rounds) (one_meaning one bytes v.program p v.form form) (failure_violates bytes kind line schedule v)
+decided_by one bytes p (NotAToken line place) form v = no_tokens bytes form.of.tokens line place form.of.are v
+decided_by one bytes p (NotAProgram line token) form v = no_tree bytes form.tree line token form.of v
+decided_by one bytes p (NotBuilt line) form v = no_other one bytes p form v.other_form
+decided_by one bytes p FileTooLong form v = v
+decided_by one bytes p (ReadFault name) form v = v
+decided_by one bytes p OutOfMemory form v = tt
+
+pub decided_ends : OneTree → (call : Call) (content : List ℕ) (p : Program) (ending : Ending) → IsToldFile call content → length content ≤ file_limit → IsFirstForm content p → IsLawful call ending → IsDecided p ending
+decided_ends one call content p ending told short form lawful = decided_by one content p ending form (told_verdict call content ending told short lawful)
+
+-- a file of another form
+not_built_by : OneTree → (bytes : List ℕ) (ending : Ending) → IsOtherForm bytes → IsVerdict defaults bytes ending → IsEither (NotBuilt 0) ending
+not_built_by one bytes (Successful unwind rounds formula log) other v = no_other one bytes v.program v.form other
+not_built_by one bytes (Failed kind line schedule) other v = no_other one bytes v.program v.form other
+not_built_by one bytes (NotAToken line place) other v = no_tokens bytes other.of.tokens line place other.of.are v
+not_built_by one bytes (NotAProgram line token) other v = no_tree bytes other.tree line token other.of v
+not_built_by one bytes (NotBuilt line) other v = ap NotBuilt (sym v.no_line)
+not_built_by one bytes FileTooLong other v = absurd v
+not_built_by one bytes (ReadFault name) other v = absurd v
+not_built_by one bytes OutOfMemory other v = tt
+
+pub not_built_ends : OneTree → (call : Call) (content : List ℕ) (ending : Ending) → IsToldFile call content → length content ≤ file_limit → IsOtherForm content → IsLawful call ending → IsEither (NotBuilt 0) ending
+not_built_ends one call content ending told short other lawful = not_built_by one content ending other (told_verdict call content ending told short lawful)
+
+-- a file without a cut
+same_place : (bytes : List ℕ) (line place l p : ℕ) → HasNoTokens bytes line place → HasNoTokens bytes l p → NotAToken line place ≡ NotAToken l p
+same_place bytes line place l p a b =
+    let same = one_place bytes line place l p a b in
+    ap (λ (n : ℕ). NotAToken n place) same.0 ∙ ap (λ (n : ℕ). NotAToken l n) same.1
+
+not_a_token_by : (bytes : List ℕ) (line place : ℕ) (ending : Ending) → HasNoTokens bytes line place → IsVerdict defaults bytes ending → IsEither (NotAToken line place) ending
+not_a_token_by bytes line place (Successful unwind rounds formula log) none v = no_tokens bytes v.form.of.tokens line place v.form.of.are none
+not_a_token_by bytes line place (Failed kind l schedule) none v = no_tokens bytes v.form.of.tokens line place v.form.of.are none
+not_a_token_by bytes line place (NotAToken l p) none v = same_place bytes line place l p none v
+not_a_token_by bytes line place (NotAProgram l token) none v = no_tokens bytes v.tokens line place v.are none
+not_a_token_by bytes line place (NotBuilt l) none v = no_tokens bytes v.other_form.of.tokens line place v.other_form.of.are none
+not_a_token_by bytes line place FileTooLong none v = absurd v
+not_a_token_by bytes line place (ReadFault name) none v = absurd v
+not_a_token_by bytes line place OutOfMemory none v = tt
+
+pub not_a_token_ends : (call : Call) (content : List ℕ) (line place : ℕ) (ending : Ending) → IsToldFile call content → length content ≤ file_limit → HasNoTokens content line place → IsLawful call ending → IsEither (NotAToken line place) ending
+not_a_token_ends call content line place ending told short none lawful = not_a_token_by content line place ending none (told_verdict call content ending told short lawful)
+
+-- a file whose tokens no tree spells
+tree_here : (bytes : List ℕ) (tokens : Tokens) (tree : TranslationUnit) → HasTokens bytes tokens → HasTree bytes tree → IsProgram tokens tree
+tree_here bytes tokens tree are of = subst (λ (s : Tokens). IsProgram s tree) (one_tokens bytes of.tokens tokens of.are are) of.spelled
+
+not_a_program_by : (bytes : List ℕ) (tokens : Tokens) (ending : Ending) → HasTokens bytes tokens → ((u : TranslationUnit) → IsProgram tokens u → ⊥) → IsVerdict defaults bytes ending → IsRefusal tokens ending
+not_a_program_by bytes tokens (Successful unwind rounds formula log) are none v = none v.form.tree (tree_here bytes tokens v.form.tree are v.form.of)
+not_a_program_by bytes tokens (Failed kind line schedule) are none v = none v.form.tree (tree_here bytes tokens v.form.tree are v.form.of)
+not_a_program_by bytes tokens (NotAToken line place) are none v = no_tokens bytes tokens line place are v
+not_a_program_by bytes tokens (NotAProgram line token) are none v =
+    subst (λ (s : Tokens). IsRefusedAt s token line) (one_tokens bytes v.tokens tokens v.are are) v.refused
+not_a_program_by bytes tokens (NotBuilt line) are none v = none v.other_form.tree (tree_here bytes tokens v.other_form.tree are v.other_form.of)
+not_a_program_by bytes tokens FileTooLong are none v = v
+not_a_program_by bytes tokens (ReadFault name) are none v = v
+not_a_program_by bytes tokens OutOfMemory are none v = tt
+
+pub not_a_program_ends : (call : Call) (content : List ℕ) (tokens : Tokens) (ending : Ending) → IsToldFile call content → length content ≤ file_limit → HasTokens content tokens
+    → ((u : TranslationUnit) → IsProgram tokens u → ⊥) → IsLawful call ending → IsRefusal tokens ending
+not_a_program_ends call content tokens ending told short are none lawful = not_a_program_by content tokens ending are none (told_verdict call content ending told short lawful)
 
 pub too_long_ends : (call : Call) (content : List ℕ) (ending : Ending) → IsToldFile call content → file_limit < length content → IsLawful call ending → IsEither FileTooLong ending
 too_long_ends call content (Successful unwind rounds formula log) told long lawful =
     let same = ap length (source_bytes call content lawful.0 told lawful.1) in let short = lawful.1.within_limit in absurd (omega arith)
 too_long_ends call content (Failed kind line schedule) told long lawful =
+    let same = ap length (source_bytes call content lawful.0 told lawful.1) in let short = lawful.1.within_limit in absurd (omega arith)
+too_long_ends call content (NotAToken line place) told long lawful =
+    let same = ap length (source_bytes call content lawful.0 told lawful.1) in let short = lawful.1.within_limit in absurd (omega arith)
+too_long_ends call content (NotAProgram line token) told long lawful =
     let same = ap length (source_bytes call content lawful.0 told lawful.1) in let short = lawful.1.within_limit in absurd (omega arith)
 too_long_ends call content (NotBuilt line) told long (inl lawful) =
     let same = ap length (source_bytes call content lawful.0 told lawful.1) in let short = lawful.1.within_limit in absurd (omega arith)
@@ -108,6 +189,8 @@ not_lacking call name bytes named lacks source =
 pub missing_ends : (call : Call) (name : List ℕ) (ending : Ending) → IsFileName call.words name → Lacks call.files name → IsLawful call ending → IsEither (ReadFault name) ending
 missing_ends call name (Successful unwind rounds formula log) named lacks lawful = absurd (not_lacking call name lawful.0 named lacks lawful.1)
 missing_ends call name (Failed kind line schedule) named lacks lawful = absurd (not_lacking call name lawful.0 named lacks lawful.1)
+missing_ends call name (NotAToken line place) named lacks lawful = absurd (not_lacking call name lawful.0 named lacks lawful.1)
+missing_ends call name (NotAProgram line token) named lacks lawful = absurd (not_lacking call name lawful.0 named lacks lawful.1)
 missing_ends call name (NotBuilt line) named lacks (inl lawful) = absurd (not_lacking call name lawful.0 named lacks lawful.1)
 missing_ends call name (NotBuilt line) named lacks (inr lawful) = absurd (lawful.0 name named)
 missing_ends call name FileTooLong named lacks lawful =
@@ -118,26 +201,9 @@ missing_ends call name OutOfMemory named lacks lawful = tt
 pub no_file_ends : (call : Call) (ending : Ending) → NamesNoFile call → IsLawful call ending → IsEither (NotBuilt 0) ending
 no_file_ends call (Successful unwind rounds formula log) none lawful = absurd (none lawful.1.name lawful.1.named)
 no_file_ends call (Failed kind line schedule) none lawful = absurd (none lawful.1.name lawful.1.named)
+no_file_ends call (NotAToken line place) none lawful = absurd (none lawful.1.name lawful.1.named)
+no_file_ends call (NotAProgram line token) none lawful = absurd (none lawful.1.name lawful.1.named)
 no_file_ends call (NotBuilt line) none lawful = ap NotBuilt (sym (⊎_elim (λ from. from.2.no_line) (λ words. words.1) lawful))
 no_file_ends call FileTooLong none lawful = absurd (none lawful.name lawful.named)
 no_file_ends call (ReadFault name) none lawful = absurd (none name lawful.named)
 no_file_ends call OutOfMemory none lawful = tt
-
-failure_violates : (bytes : List ℕ) (kind : BreakKind) (line : ℕ) (schedule : List Step) (failure : IsFailure defaults bytes kind line schedule) → Violated failure.program defaults.unwind defaults.rounds
-failure_violates bytes kind line schedule failure =
-    (failure.run, kind, line, failure.is_broken, omega (arith, rounds_of_run-follows failure.run schedule failure.follows, failure.within_rounds))
-
-pub decided_ends : OneProgram → (call : Call) (content : List ℕ) (p : Program) (ending : Ending) → IsToldFile call content → length content ≤ file_limit → IsFirstForm content p → IsLawful call ending → IsDecided p ending
-decided_ends one call content p (Successful unwind rounds formula log) told short form lawful =
-    let same = one lawful.0 lawful.2.program p lawful.2.form (form_here content lawful.0 p (source_bytes call content lawful.0 told lawful.1) form) in
-    subst (λ (q : Program). Violated q defaults.unwind defaults.rounds → ⊥) same lawful.2.not_violated
-decided_ends one call content p (Failed kind line schedule) told short form lawful =
-    let same = one lawful.0 lawful.2.program p lawful.2.form (form_here content lawful.0 p (source_bytes call content lawful.0 told lawful.1) form) in
-    subst (λ (q : Program). Violated q defaults.unwind defaults.rounds) same (failure_violates lawful.0 kind line schedule lawful.2)
-decided_ends one call content p (NotBuilt line) told short form (inl lawful) =
-    absurd (lawful.2.no_form p (form_here content lawful.0 p (source_bytes call content lawful.0 told lawful.1) form))
-decided_ends one call content p (NotBuilt line) told short form (inr lawful) = absurd (lawful.0 told.name told.named)
-decided_ends one call content p FileTooLong told short form lawful =
-    let long = long_told call content lawful.name told lawful.named lawful.longer in absurd (omega arith)
-decided_ends one call content p (ReadFault name) told short form lawful = absurd (no_fault call content name told lawful.named lawful.cause)
-decided_ends one call content p OutOfMemory told short form lawful = tt

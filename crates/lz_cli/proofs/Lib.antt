@@ -2,3 +2,4 @@ pub mod DecideLemmas
 pub mod EndingLemmas
 pub mod ExactnessLemmas
 pub mod RefutationLemmas
+mod SourceLemmas

@@ -4,7 +4,6 @@ use Rattle.lz_base.specs.declared.word.BreakKind.{BreakKind}
 use Rattle.lz_outside.specs.Faults.{Rose}
 use Rattle.lz_outside.specs.Files.{FileMap, Lacks, Holds, IsLonger}
 use Rattle.lz_tree.specs.FirstFormScopes.{Program}
-use Rattle.lz_tree.specs.FirstForm.{IsFirstForm}
 use Rattle.lz_model.specs.declared.action.Event.{Event}
 use Rattle.lz_model.specs.declared.schedule.Step.{Step}
 use Rattle.lz_model.specs.Rounds.{rounds_of, threads_of}
@@ -14,8 +13,9 @@ use Rattle.lz_cnf.specs.Models.{IsFormula, HasModel}
 use Rattle.lz_log.specs.declared.log.LogStep.{LogStep}
 use Rattle.lz_log.specs.Refutation.{Refutes}
 use Rattle.lz_cli.specs.declared.ending.Ending.{Ending}
-use Rattle.lz_cli.specs.declared.ending.Ending.TheVariants.{Successful, Failed, NotBuilt, FileTooLong, ReadFault, OutOfMemory}
+use Rattle.lz_cli.specs.declared.ending.Ending.TheVariants.{Successful, Failed, NotAToken, NotAProgram, NotBuilt, FileTooLong, ReadFault, OutOfMemory}
 use Rattle.lz_cli.specs.CommandLine.{IsFileName}
+use Rattle.lz_cli.specs.Source.{HasNoTokens, HasNoTree, IsFirstForm, IsOtherForm}
 use Rattle.lz_base.specs.Limits.{file_limit}
 use Rattle.lz_cli.specs.Limits.{Bounds, defaults}
 
@@ -47,15 +47,17 @@ pub record IsFailure (bounds : Bounds) (bytes : List ℕ) (kind : BreakKind) (li
   pub follows : Follows run schedule
   pub within_rounds : rounds_of (threads_of schedule) ≤ bounds.rounds
 
--- the bytes do not have the form that is built
+-- the bytes have a tree of a form that is not built
 pub record IsNotBuilt (bytes : List ℕ) (line : ℕ) : Type 0 where
-  pub no_form : (p : Program) → IsFirstForm bytes p → ⊥
+  pub other_form : IsOtherForm bytes
   pub no_line : line ≡ 0
 
 -- the ending is lawful for a file of these bytes, all of which were read
 abbrev pub IsVerdict : Bounds → List ℕ → Ending → Type 0
 IsVerdict bounds bytes (Successful unwind rounds formula log) = IsSuccess bounds bytes unwind rounds formula log
 IsVerdict bounds bytes (Failed kind line schedule) = IsFailure bounds bytes kind line schedule
+IsVerdict bounds bytes (NotAToken line place) = HasNoTokens bytes line place
+IsVerdict bounds bytes (NotAProgram line token) = HasNoTree bytes line token
 IsVerdict bounds bytes (NotBuilt line) = IsNotBuilt bytes line
 IsVerdict bounds bytes FileTooLong = ⊥
 IsVerdict bounds bytes (ReadFault name) = ⊥
@@ -105,6 +107,8 @@ pub record IsReadFault (call : Call) (name : List ℕ) : Type 0 where
 abbrev pub IsLawful : Call → Ending → Type 0
 IsLawful call (Successful unwind rounds formula log) = IsFromFile call (Successful unwind rounds formula log)
 IsLawful call (Failed kind line schedule) = IsFromFile call (Failed kind line schedule)
+IsLawful call (NotAToken line place) = IsFromFile call (NotAToken line place)
+IsLawful call (NotAProgram line token) = IsFromFile call (NotAProgram line token)
 IsLawful call (NotBuilt line) = IsFromFile call (NotBuilt line) ⊎ (NamesNoFile call × (line ≡ 0))
 IsLawful call FileTooLong = IsFileTooLong call
 IsLawful call (ReadFault name) = IsReadFault call name

@@ -3,10 +3,12 @@
 use Rattle.std.specs.Prelude.{◌≡◌, ℕ, List, ⊤}
 use Rattle.lz_outside.specs.Faults.{Rose}
 use Rattle.lz_outside.specs.Files.{Tells}
+use Rattle.lz_tree.specs.declared.token.Tokens.{Tokens}
 use Rattle.lz_tree.specs.FirstFormScopes.{Program}
+use Rattle.lz_program.specs.Programs.{IsRefusedAt}
 use Rattle.lz_model.specs.Violation.{Violated}
 use Rattle.lz_cli.specs.declared.ending.Ending.{Ending}
-use Rattle.lz_cli.specs.declared.ending.Ending.TheVariants.{Successful, Failed, NotBuilt, FileTooLong, ReadFault, OutOfMemory}
+use Rattle.lz_cli.specs.declared.ending.Ending.TheVariants.{Successful, Failed, NotAToken, NotAProgram, NotBuilt, FileTooLong, ReadFault, OutOfMemory}
 use Rattle.lz_cli.specs.CommandLine.{IsFileName}
 use Rattle.lz_cli.specs.Limits.{defaults}
 use Rattle.lz_cli.specs.Ending.{Call}
@@ -22,15 +24,25 @@ pub record IsToldFile (call : Call) (content : List ℕ) : Type 0 where
 abbrev pub IsDecided : Program → Ending → Type 0
 IsDecided p (Successful unwind rounds formula log) = Violated p defaults.unwind defaults.rounds → ⊥
 IsDecided p (Failed kind line schedule) = Violated p defaults.unwind defaults.rounds
+IsDecided p (NotAToken line place) = ⊥
+IsDecided p (NotAProgram line token) = ⊥
 IsDecided p (NotBuilt line) = ⊥
 IsDecided p FileTooLong = ⊥
 IsDecided p (ReadFault name) = ⊥
 IsDecided p OutOfMemory = ⊤
 
+-- the ending tells the first token up to and with which no program's spelling begins, or that memory ran out
+abbrev pub IsRefusal : Tokens → Ending → Type 0
+IsRefusal tokens (NotAProgram line token) = IsRefusedAt tokens token line
+IsRefusal tokens OutOfMemory = ⊤
+IsRefusal tokens _ = ⊥
+
 -- the ending is this one, or that memory ran out
 abbrev pub IsEither : Ending → Ending → Type 0
 IsEither expected (Successful unwind rounds formula log) = expected ≡ Successful unwind rounds formula log
 IsEither expected (Failed kind line schedule) = expected ≡ Failed kind line schedule
+IsEither expected (NotAToken line place) = expected ≡ NotAToken line place
+IsEither expected (NotAProgram line token) = expected ≡ NotAProgram line token
 IsEither expected (NotBuilt line) = expected ≡ NotBuilt line
 IsEither expected FileTooLong = expected ≡ FileTooLong
 IsEither expected (ReadFault name) = expected ≡ ReadFault name

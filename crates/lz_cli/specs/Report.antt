@@ -7,7 +7,7 @@ use Rattle.lz_base.specs.declared.word.BreakKind.TheVariants.{Assert, Bounds, Di
 use Rattle.lz_model.specs.declared.schedule.Step.{Step}
 use Rattle.lz_model.specs.Rounds.{rounds_of, threads_of}
 use Rattle.lz_cli.specs.declared.ending.Ending.{Ending}
-use Rattle.lz_cli.specs.declared.ending.Ending.TheVariants.{Successful, Failed, NotBuilt, FileTooLong, ReadFault, OutOfMemory}
+use Rattle.lz_cli.specs.declared.ending.Ending.TheVariants.{Successful, Failed, NotAToken, NotAProgram, NotBuilt, FileTooLong, ReadFault, OutOfMemory}
 use Rattle.lz_cli.specs.declared.evidence.Evidence.{Evidence}
 use Rattle.lz_cli.specs.declared.evidence.Evidence.TheVariants.{Nothing, Proof}
 use Rattle.lz_base.specs.Limits.{file_limit}
@@ -37,6 +37,8 @@ report (Successful unwind rounds formula log) = success_line unwind rounds
 report (Failed kind line schedule) =
     codes "FAILED\ncheck " ++ kind_word kind ++ codes " line " ++ decimal line
     ++ codes "\nrounds " ++ decimal (rounds_of (threads_of schedule)) ++ codes "\n" ++ flat_map step_line schedule
+report (NotAToken line place) = codes "SOURCE line " ++ decimal line ++ codes " byte " ++ decimal place ++ codes ": not a token\n"
+report (NotAProgram line token) = codes "SOURCE line " ++ decimal line ++ codes " token " ++ decimal token ++ codes ": not a program\n"
 report (NotBuilt line) = codes "NOTBUILT line " ++ decimal line ++ codes "\n"
 report FileTooLong = codes "LIMIT file over " ++ decimal file_limit ++ codes " bytes\n"
 report (ReadFault name) = codes "READ " ++ name ++ codes "\n"
@@ -46,6 +48,8 @@ report OutOfMemory = codes "MEMORY\n"
 abbrev pub status_of : Ending → ℕ
 status_of (Successful unwind rounds formula log) = 0
 status_of (Failed kind line schedule) = 1
+status_of (NotAToken line place) = 4
+status_of (NotAProgram line token) = 4
 status_of (NotBuilt line) = 12
 status_of FileTooLong = 5
 status_of (ReadFault name) = 6
@@ -55,6 +59,8 @@ status_of OutOfMemory = 8
 abbrev pub evidence_of : Ending → Evidence
 evidence_of (Successful unwind rounds formula log) = Proof formula log
 evidence_of (Failed kind line schedule) = Nothing
+evidence_of (NotAToken line place) = Nothing
+evidence_of (NotAProgram line token) = Nothing
 evidence_of (NotBuilt line) = Nothing
 evidence_of FileTooLong = Nothing
 evidence_of (ReadFault name) = Nothing
@@ -64,6 +70,8 @@ evidence_of OutOfMemory = Nothing
 abbrev pub IsPrintable : Ending → Type 0
 IsPrintable (Failed kind line schedule) = rounds_of (threads_of schedule) < 2 ^ 32
 IsPrintable (Successful unwind rounds formula log) = ⊤
+IsPrintable (NotAToken line place) = ⊤
+IsPrintable (NotAProgram line token) = ⊤
 IsPrintable (NotBuilt line) = ⊤
 IsPrintable FileTooLong = ⊤
 IsPrintable (ReadFault name) = ⊤

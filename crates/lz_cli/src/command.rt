@@ -6,6 +6,10 @@ ghost use Rattle.lz_cli.specs.Report.{report, status_of, IsPrintable};
 ghost use Rattle.lz_base.specs.Limits.{file_limit};
 ghost use Rattle.lz_cli.specs.Limits.{defaults};
 ghost use Rattle.lz_cli.specs.Ending.{Call, call_of, IsVerdict, IsLawful};
+ghost use Rattle.lz_tree.specs.Tokens.{HasTokens};
+ghost use Rattle.lz_tree.specs.Trees.{translation_unit};
+ghost use Rattle.lz_tree.specs.FirstFormScopes.{program, IsWellFormed};
+ghost use Rattle.lz_cli.specs.Source.{HasTree, IsFirstForm};
 ghost use Rattle.lz_cli.specs.Command.{output_of, IsDeliveredOrCutOff, Answers};
 
 use crate::command_line::{Words, file_name};
@@ -16,14 +20,18 @@ use crate::limits::{DEFAULT_ROUNDS, DEFAULT_UNWIND};
 use crate::refutation::refutation;
 use crate::report::{MEMORY_REPORT, print, status};
 use lz_base::{FILE_LIMIT, Memory, Name};
+use lz_form::first_form;
+use lz_lex::{LexError, lex};
 use lz_outside::{Failed, Folder, ReadError, Sink, read_all, write_all};
-use lz_parse::{ParseError, parse};
+use lz_program::{ParseError, parse};
+use lz_tree::first_form::Scoped;
+use lz_tree::{Program, Tokens};
 use std::alloc::Global;
 
 /// How a call ended: the status that the program ends with, and what shows that the verdict is right.
 #[derive(Debug, Drop)]
 pub struct Ended {
-    /// 0, 1, 5, 6, 8 or 12, as the report says, or 7 where the report could not be written whole.
+    /// 0, 1, 4, 5, 6, 8 or 12, as the report says, or 7 where the report could not be written whole.
     pub status: u8,
     pub evidence: Evidence,
 }
@@ -95,12 +103,43 @@ fn judge(alloc: Global, bytes: &[u8]) -> Result<Ending, Memory>
     ensures verdict { IfOk result (IsVerdict defaults bytes.now) }
     ensures printable { IfOk result IsPrintable }
 {
-    let scoped = match parse(alloc, bytes) {
-        Ok(scoped) => scoped,
-        Err(ParseError::NotTheForm) => return Ok(Ending::NotBuilt { line: 0 }),
-        Err(ParseError::Memory) => return Err(Memory),
-    };
-    match decide(alloc, &scoped)? {
+    match lex(alloc, bytes) {
+        Ok(tokens) => judge_tokens(alloc, &tokens),
+        Err(LexError::Bad { place, line }) => Ok(Ending::NotAToken { line, place }),
+        Err(LexError::Memory) => Err(Memory),
+    }
+}
+
+/// The verdict on the tokens of a file.
+fn judge_tokens(alloc: Global, tokens: &Tokens) -> Result<Ending, Memory>
+    ensures verdict { IfOk result (λ ending. (bytes : List ℕ) → HasTokens bytes tokens.now → IsVerdict defaults bytes ending) }
+    ensures printable { IfOk result IsPrintable }
+{
+    match parse(alloc, tokens) {
+        Ok(program) => judge_program(alloc, &program),
+        Err(ParseError::NotAProgram { token, line }) => Ok(Ending::NotAProgram { line, token }),
+        Err(ParseError::Memory) => Err(Memory),
+    }
+}
+
+/// The verdict on the program of a file.
+fn judge_program(alloc: Global, program: &Program) -> Result<Ending, Memory>
+    ensures verdict { IfOk result (λ ending. (bytes : List ℕ) → HasTree bytes (translation_unit program.now) → IsVerdict defaults bytes ending) }
+    ensures printable { IfOk result IsPrintable }
+{
+    match first_form(alloc, program)? {
+        Some(scoped) => judge_form(alloc, &scoped),
+        None => Ok(Ending::NotBuilt { line: 0 }),
+    }
+}
+
+/// The verdict on a program of the first form.
+fn judge_form(alloc: Global, scoped: &Scoped) -> Result<Ending, Memory>
+    requires { IsWellFormed (program scoped.now) }
+    ensures verdict { IfOk result (λ ending. (bytes : List ℕ) → IsFirstForm bytes (program scoped.now) → IsVerdict defaults bytes ending) }
+    ensures printable { IfOk result IsPrintable }
+{
+    match decide(alloc, scoped)? {
         Decided::Holds => {
             let (formula, log) = refutation(alloc)?;
             Ok(Ending::Successful {

@@ -21,6 +21,16 @@ pub enum Ending {
         line: u32,
         schedule: Schedule,
     },
+    /// The bytes of the file have no cut into tokens; the longest cut ends at this place, counted from 0.
+    NotAToken {
+        line: u32,
+        place: u32,
+    },
+    /// No program spells the tokens of the file; this one, counted from 0, is the first with which none goes on.
+    NotAProgram {
+        line: u32,
+        token: u32,
+    },
     /// The file, or the words, have a form that is not built.
     NotBuilt {
         line: u32,
@@ -55,6 +65,8 @@ impl Ending {
                 line: _,
                 schedule: _,
             } => Evidence::Nothing,
+            Ending::NotAToken { line: _, place: _ } => Evidence::Nothing,
+            Ending::NotAProgram { line: _, token: _ } => Evidence::Nothing,
             Ending::NotBuilt { line: _ } => Evidence::Nothing,
             Ending::FileTooLong => Evidence::Nothing,
             Ending::ReadFault { name: _ } => Evidence::Nothing,

@@ -1,28 +1,42 @@
 //! Which endings are lawful where the folder tells the named file and no read of it failed, where the told files lack
 //! it, and where no file is named.
 
-ghost use Rattle.std.specs.Prelude.{ℕ, ◌<◌, ◌≤◌, List, length};
+ghost use Rattle.std.specs.Prelude.{◌≡◌, ℕ, ◌<◌, ◌≤◌, List, length};
 ghost use Rattle.lz_outside.specs.Files.{Lacks};
+ghost use Rattle.lz_tree.specs.declared.token.Tokens.{Tokens};
+ghost use Rattle.lz_tree.specs.Tokens.{HasTokens};
+ghost use Rattle.lz_tree.specs.Trees.{TranslationUnit};
 ghost use Rattle.lz_tree.specs.FirstFormScopes.{Program};
-ghost use Rattle.lz_tree.specs.FirstForm.{IsFirstForm};
+ghost use Rattle.lz_program.specs.Programs.{IsProgram, IsRefusedAt};
 ghost use Rattle.lz_cli.specs.declared.ending.Ending.{Ending};
 ghost use Rattle.lz_cli.specs.CommandLine.{IsFileName};
 ghost use Rattle.lz_base.specs.Limits.{file_limit};
+ghost use Rattle.lz_cli.specs.Source.{HasNoTokens, IsFirstForm, IsOtherForm};
 ghost use Rattle.lz_cli.specs.Ending.{Call, IsLawful, NamesNoFile};
-ghost use Rattle.lz_cli.specs.Exactness.{IsToldFile, IsDecided, IsEither};
+ghost use Rattle.lz_cli.specs.Exactness.{IsToldFile, IsDecided, IsRefusal, IsEither};
 
-use lz_parse::one_program;
+use lz_program::one_program;
 
 /// What a lawful ending is, in every call where the folder tells the named file and no read failed, and where
 /// no file is named or the told files lack it.
 pub fn endings_are_exact()
-    // A file of the form, within the limit, is decided.
+    // A file of the first form, within the limit, is decided.
     ensures decided { (call : Call) (content : List ℕ) (p : Program) (ending : Ending) → IsToldFile call content
         → length content ≤ file_limit → IsFirstForm content p → IsLawful call ending → IsDecided p ending }
-    // A file of another form, within the limit, is not built.
+    // A file whose tree has another form, within the limit, is not built.
     ensures not_built { (call : Call) (content : List ℕ) (ending : Ending) → IsToldFile call content
-        → length content ≤ file_limit → ((p : Program) → IsFirstForm content p → ⊥) → IsLawful call ending
-        → IsEither (Ending.NotBuilt 0) ending }
+        → length content ≤ file_limit → IsOtherForm content → IsLawful call ending → IsEither (Ending.NotBuilt 0) ending }
+    // Of a file without a cut, within the limit, the place is told where the longest cut ends.
+    ensures not_a_token { (call : Call) (content : List ℕ) (line place : ℕ) (ending : Ending) → IsToldFile call content
+        → length content ≤ file_limit → HasNoTokens content line place → IsLawful call ending
+        → IsEither (Ending.NotAToken line place) ending }
+    // Of a file whose tokens no well-formed tree spells, within the limit, a first token is told with which none goes on,
+    ensures not_a_program { (call : Call) (content : List ℕ) (tokens : Tokens) (ending : Ending) → IsToldFile call content
+        → length content ≤ file_limit → HasTokens content tokens → ((u : TranslationUnit) → IsProgram tokens u → ⊥)
+        → IsLawful call ending → IsRefusal tokens ending }
+    // and there is one such token.
+    ensures one_token { (tokens : Tokens) (a k b l : ℕ) → IsRefusedAt tokens a k → IsRefusedAt tokens b l
+        → (k ≡ l) × (a ≡ b) }
     // A longer file is too long.
     ensures too_long { (call : Call) (content : List ℕ) (ending : Ending) → IsToldFile call content
         → file_limit < length content → IsLawful call ending → IsEither Ending.FileTooLong ending }

@@ -27,6 +27,8 @@ pub fn print(alloc: Global, ending: &Ending) -> Result<Bytes, Memory>
             line,
             schedule,
         } => failed(alloc, *kind, *line, schedule),
+        Ending::NotAToken { line, place } => not_a_token(alloc, *line, *place),
+        Ending::NotAProgram { line, token } => not_a_program(alloc, *line, *token),
         Ending::NotBuilt { line } => not_built(alloc, *line),
         Ending::FileTooLong => file_too_long(alloc),
         Ending::ReadFault { name } => read_fault(alloc, name),
@@ -59,6 +61,30 @@ fn failed(alloc: Global, kind: BreakKind, line: u32, schedule: &Schedule) -> Res
     text.append_number(u64::from(rounds(schedule)))?;
     text.append(b"\n")?;
     append_steps(&mut text, schedule)?;
+    Ok(text)
+}
+
+fn not_a_token(alloc: Global, line: u32, place: u32) -> Result<Bytes, Memory>
+    ensures { IfOk result (λ text. text ≡ report (Ending.NotAToken line place)) }
+{
+    let mut text = Bytes::new(alloc);
+    text.append(b"SOURCE line ")?;
+    text.append_number(u64::from(line))?;
+    text.append(b" byte ")?;
+    text.append_number(u64::from(place))?;
+    text.append(b": not a token\n")?;
+    Ok(text)
+}
+
+fn not_a_program(alloc: Global, line: u32, token: u32) -> Result<Bytes, Memory>
+    ensures { IfOk result (λ text. text ≡ report (Ending.NotAProgram line token)) }
+{
+    let mut text = Bytes::new(alloc);
+    text.append(b"SOURCE line ")?;
+    text.append_number(u64::from(line))?;
+    text.append(b" token ")?;
+    text.append_number(u64::from(token))?;
+    text.append(b": not a program\n")?;
     Ok(text)
 }
 
@@ -155,6 +181,8 @@ pub fn status(ending: &Ending) -> u8
             line: _,
             schedule: _,
         } => 1,
+        Ending::NotAToken { line: _, place: _ } => 4,
+        Ending::NotAProgram { line: _, token: _ } => 4,
         Ending::NotBuilt { line: _ } => 12,
         Ending::FileTooLong => 5,
         Ending::ReadFault { name: _ } => 6,

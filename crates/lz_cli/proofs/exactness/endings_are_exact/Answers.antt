@@ -1,11 +1,21 @@
-use Rattle.lz_cli.proofs.ExactnessLemmas.{decided_ends, not_built_ends, too_long_ends, missing_ends, no_file_ends}
+use Rattle.lz_cli.proofs.ExactnessLemmas.{decided_ends, not_built_ends, not_a_token_ends, not_a_program_ends, too_long_ends, missing_ends, no_file_ends}
+use Rattle.lz_cli.proofs.SourceLemmas.{one_refused}
 use Rattle.lz_cli.proofs.exactness.endings_are_exact.Goals as goal
 
 pub returns-clause-decided : goal.returns-clause-decided
 returns-clause-decided c = decided_ends c.one_program.ensures
 
 pub returns-clause-not_built : goal.returns-clause-not_built
-returns-clause-not_built c = not_built_ends
+returns-clause-not_built c = not_built_ends c.one_program.ensures
+
+pub returns-clause-not_a_token : goal.returns-clause-not_a_token
+returns-clause-not_a_token c = not_a_token_ends
+
+pub returns-clause-not_a_program : goal.returns-clause-not_a_program
+returns-clause-not_a_program c = not_a_program_ends
+
+pub returns-clause-one_token : goal.returns-clause-one_token
+returns-clause-one_token c = one_refused
 
 pub returns-clause-too_long : goal.returns-clause-too_long
 returns-clause-too_long c = too_long_ends
