@@ -8,7 +8,7 @@ use Rattle.lz_tree.specs.Tokens.{Cutting, Cut, HasTokens, cut, whole, stopped}
 use Rattle.lz_tree.specs.Trees.{TranslationUnit}
 use Rattle.lz_tree.specs.Spelling.{SpellsExternals}
 use Rattle.lz_tree.specs.FirstFormScopes.{Program}
-use Rattle.lz_tree.specs.FirstFormTrees.{first_form}
+use Rattle.lz_tree.specs.FirstForm.{first_form}
 use Rattle.lz_expr.specs.Fronts.{line_of}
 use Rattle.lz_program.specs.Programs.{IsProgram, BeginsProgram, IsRefusedAt}
 use Rattle.lz_cli.specs.Source.{HasNoTokens, HasNoTree, HasTree, IsFirstForm, IsOtherForm}

@@ -4,7 +4,7 @@ use Rattle.lz_tree.specs.declared.token.Tokens.{Tokens}
 use Rattle.lz_tree.specs.Tokens.{HasTokens, cut, stopped}
 use Rattle.lz_tree.specs.Trees.{TranslationUnit}
 use Rattle.lz_tree.specs.FirstFormScopes.{Program}
-use Rattle.lz_tree.specs.FirstFormTrees.{first_form}
+use Rattle.lz_tree.specs.FirstForm.{first_form}
 use Rattle.lz_program.specs.Programs.{IsProgram, IsRefusedAt}
 
 -- the bytes have no cut into tokens; the longest cut ends at this place, on this line

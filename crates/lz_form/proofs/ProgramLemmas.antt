@@ -4,7 +4,7 @@ use Rattle.std.proofs.lemmas.List.{drop_more, drop_all, map-append}
 use Rattle.lz_tree.specs.declared.program.External.{External}
 use Rattle.lz_tree.specs.Trees.{ExternalDeclaration, external_declaration}
 use Rattle.lz_tree.specs.FirstFormScopes.{Program, Statement}
-use Rattle.lz_tree.specs.FirstFormTrees.{Declared, ◌>>=◌, with_external, main_of, program_from}
+use Rattle.lz_tree.specs.FirstForm.{Declared, ◌>>=◌, with_external, main_of, program_from}
 use Rattle.lz_form.specs.Reading.{with_externals}
 
 -- what is declared behind external declarations

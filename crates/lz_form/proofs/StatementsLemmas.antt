@@ -4,7 +4,7 @@ use Rattle.std.proofs.lemmas.List.{drop_more, drop_all}
 use Rattle.lz_tree.specs.declared.statement.Stmt.{Stmt}
 use Rattle.lz_tree.specs.Trees as tree
 use Rattle.lz_tree.specs.FirstFormScopes.{Statement}
-use Rattle.lz_tree.specs.FirstFormTrees.{Declared, statement_of, statements_of}
+use Rattle.lz_tree.specs.FirstForm.{Declared, statement_of, statements_of}
 
 -- what parts mean
 abbrev pub meant : List (List ℕ) → Declared → List Stmt → Option (List Statement)

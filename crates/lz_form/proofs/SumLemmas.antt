@@ -1,7 +1,7 @@
 -- A sum of one operand.
 use Rattle.std.proofs.Common.{◌≡◌, ◌≢◌, ℕ, zero, suc, Bool, true, false, refl}
 use Rattle.lz_tree.specs.Trees.{Expression, constant, null, binary}
-use Rattle.lz_tree.specs.FirstFormTrees.{Declared, operand_of, sum_of}
+use Rattle.lz_tree.specs.FirstForm.{Declared, operand_of, sum_of}
 
 abbrev pub is_binary : Expression → Bool
 is_binary (binary line op left right) = true

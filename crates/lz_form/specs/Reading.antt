@@ -1,7 +1,7 @@
 -- Inner: what a function that reads a tree of the first form returns.
 use Rattle.std.specs.Prelude.{◌≡◌, ℕ, List, [], ◌∷◌, Option, Some, None, Result, Ok, Err}
 use Rattle.lz_tree.specs.Trees.{ExternalDeclaration}
-use Rattle.lz_tree.specs.FirstFormTrees.{Declared, ◌>>=◌, with_external}
+use Rattle.lz_tree.specs.FirstForm.{Declared, ◌>>=◌, with_external}
 use Rattle.lz_form.specs.declared.error.FormError.{FormError}
 use Rattle.lz_form.specs.declared.error.FormError.TheVariants as errors
 

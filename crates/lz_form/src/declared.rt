@@ -1,5 +1,5 @@
 ghost use Rattle.std.specs.Prelude.{◌≡◌};
-ghost use Rattle.lz_tree.specs.FirstFormTrees.{nothing_declared, cell_of, is_plain, first_value, with_object};
+ghost use Rattle.lz_tree.specs.FirstForm.{nothing_declared, cell_of, is_plain, first_value, with_object};
 ghost use Rattle.lz_tree.specs.Trees.{expression, initializer};
 ghost use Rattle.std.specs.Prelude.{option_map, ◌^◌, ◌<◌, length};
 ghost use Rattle.lz_form.specs.Reading.{Gives};
@@ -17,7 +17,7 @@ const GREATEST_INT: u64 = 2_147_483_647;
 
 /// Whether digits alone write the constant: it is at most the greatest `int`, has no suffix, and is decimal unless it is
 /// `0`, which is octal (C99 6.4.4.1).
-#[tactic(auto, unfolding(lz_tree::specs::FirstFormTrees::is_plain))]
+#[tactic(auto, unfolding(lz_tree::specs::FirstForm::is_plain))]
 pub fn is_plain(value: u64, form: Form) -> bool
     ensures { result ≡ is_plain value form }
 {
@@ -30,7 +30,7 @@ pub fn is_plain(value: u64, form: Form) -> bool
 }
 
 /// What an object starts at: a constant, or 0 (C99 6.7.8).
-#[tactic(auto, unfolding(lz_tree::specs::FirstFormTrees::first_value))]
+#[tactic(auto, unfolding(lz_tree::specs::FirstForm::first_value))]
 fn first_value(first: &First) -> Option<Value>
     ensures { result ≡ first_value (initializer first.now) }
 {
@@ -74,7 +74,7 @@ impl Declared {
     }
 
     /// The cell of a name, if it is declared.
-    #[tactic(auto, unfolding(lz_tree::specs::FirstFormTrees::cell_of))]
+    #[tactic(auto, unfolding(lz_tree::specs::FirstForm::cell_of))]
     pub fn cell(&self, name: u32) -> Result<u32, FormError>
         ensures { Gives (λ x. x) result (cell_of (declared_of self.now) name) }
     {
@@ -88,7 +88,7 @@ impl Declared {
     }
 
     /// Declares the object of a declarator, in the next cell.
-    #[tactic(auto, unfolding(lz_tree::specs::FirstFormTrees::with_object, lz_tree::specs::FirstFormTrees::is_declared))]
+    #[tactic(auto, unfolding(lz_tree::specs::FirstForm::with_object, lz_tree::specs::FirstForm::is_declared))]
     pub fn declare(&mut self, names: &[Name], declarator: &Declarator) -> Result<(), FormError>
         ensures { Gives (λ _. declared_of self.new) result (with_object names.now (declared_of self.old)
             declarator.now.name (option_map expression declarator.now.length) (initializer declarator.now.first)) }

@@ -2,7 +2,7 @@ ghost use Rattle.std.specs.Prelude.{◌≡◌, codes, map};
 ghost use Rattle.lz_tree.specs.Trees.{index_of, expressions_of};
 ghost use Rattle.lz_tree.specs.Trees as tree;
 ghost use Rattle.lz_tree.specs.FirstFormScopes.{expression};
-ghost use Rattle.lz_tree.specs.FirstFormTrees.{operand_of, sum_of, most_operands, equation_of, assignment_of, assertion_of, effect_of};
+ghost use Rattle.lz_tree.specs.FirstForm.{operand_of, sum_of, most_operands, equation_of, assignment_of, assertion_of, effect_of};
 ghost use Rattle.lz_form.specs.Reading.{Gives};
 ghost use Rattle.lz_form.specs.Views.{declared_of};
 
@@ -18,7 +18,7 @@ use std::alloc::Global;
 const MOST_OPERANDS: u32 = 100;
 
 /// A read of a declared object (C99 6.5.1).
-#[tactic(auto, unfolding(lz_tree::specs::FirstFormTrees::operand_of))]
+#[tactic(auto, unfolding(lz_tree::specs::FirstForm::operand_of))]
 fn read(declared: &Declared, line: u32, name: u32) -> Result<ScopedExpr, FormError>
     ensures { Gives expression result (operand_of (declared_of declared.now) (tree.object line name tree.whole)) }
 {
@@ -28,7 +28,7 @@ fn read(declared: &Declared, line: u32, name: u32) -> Result<ScopedExpr, FormErr
 }
 
 /// A declared name or a constant (C99 6.5.1).
-#[tactic(auto, unfolding(lz_tree::specs::FirstFormTrees::operand_of))]
+#[tactic(auto, unfolding(lz_tree::specs::FirstForm::operand_of))]
 fn operand(declared: &Declared, e: &Expr) -> Result<ScopedExpr, FormError>
     ensures { Gives expression result (operand_of (declared_of declared.now) (tree.expression e.now)) }
 {
@@ -45,7 +45,7 @@ fn operand(declared: &Declared, e: &Expr) -> Result<ScopedExpr, FormError>
 }
 
 /// A sum of at most so many operands, grouped to the left (C99 6.5.6).
-#[tactic(auto, using(crate::proofs::SumLemmas::sum_of_single), unfolding(lz_tree::specs::FirstFormTrees::sum_of, lz_tree::specs::FirstFormTrees::operand_of))]
+#[tactic(auto, using(crate::proofs::SumLemmas::sum_of_single), unfolding(lz_tree::specs::FirstForm::sum_of, lz_tree::specs::FirstForm::operand_of))]
 fn sum(alloc: Global, declared: &Declared, most: u32, e: &Expr) -> Result<ScopedExpr, FormError>
     ensures { Gives expression result (sum_of (declared_of declared.now) most (tree.expression e.now)) }
 {
@@ -76,7 +76,7 @@ fn sum(alloc: Global, declared: &Declared, most: u32, e: &Expr) -> Result<Scoped
 }
 
 /// `sum == sum` (C99 6.5.9).
-#[tactic(auto, unfolding(lz_tree::specs::FirstFormTrees::equation_of))]
+#[tactic(auto, unfolding(lz_tree::specs::FirstForm::equation_of))]
 fn equation(alloc: Global, declared: &Declared, e: &Expr) -> Result<ScopedExpr, FormError>
     ensures { Gives expression result (equation_of (declared_of declared.now) (tree.expression e.now)) }
 {
@@ -101,7 +101,7 @@ fn equation(alloc: Global, declared: &Declared, e: &Expr) -> Result<ScopedExpr, 
 }
 
 /// `NAME = sum` (C99 6.5.16.1).
-#[tactic(auto, unfolding(lz_tree::specs::FirstFormTrees::assignment_of))]
+#[tactic(auto, unfolding(lz_tree::specs::FirstForm::assignment_of))]
 fn assignment(
     alloc: Global,
     declared: &Declared,
@@ -128,7 +128,7 @@ fn assignment(
 }
 
 /// `assert ( sum == sum )` (C99 7.2.1.1).
-#[tactic(auto, using(crate::proofs::AssertionLemmas::no_assertion), unfolding(lz_tree::specs::FirstFormTrees::assertion_of))]
+#[tactic(auto, using(crate::proofs::AssertionLemmas::no_assertion), unfolding(lz_tree::specs::FirstForm::assertion_of))]
 fn assertion(
     alloc: Global,
     names: &[Name],
@@ -159,7 +159,7 @@ fn assertion(
 }
 
 /// What an expression statement does: an assignment or an assertion.
-#[tactic(auto, unfolding(lz_tree::specs::FirstFormTrees::effect_of))]
+#[tactic(auto, unfolding(lz_tree::specs::FirstForm::effect_of))]
 pub fn effect(
     alloc: Global,
     names: &[Name],

@@ -1,7 +1,7 @@
 ghost use Rattle.std.specs.Prelude.{◌≡◌, map, option_map, IfOk, IfSome};
 ghost use Rattle.lz_tree.specs.Trees as tree;
 ghost use Rattle.lz_tree.specs.FirstFormScopes.{statement, program, IsWellFormed};
-ghost use Rattle.lz_tree.specs.FirstFormTrees.{nothing_declared, is_int, with_external, is_main, main_of, program_from, first_form};
+ghost use Rattle.lz_tree.specs.FirstForm.{nothing_declared, is_int, with_external, is_main, main_of, program_from, first_form};
 ghost use Rattle.lz_form.specs.Reading.{Gives, with_externals};
 ghost use Rattle.lz_form.specs.Views.{declared_of};
 
@@ -21,7 +21,7 @@ fn is_int(base: TypeName) -> bool
 }
 
 /// Declares the one `int` object of an external declaration (C99 6.7).
-#[tactic(auto, unfolding(lz_tree::specs::FirstFormTrees::with_external))]
+#[tactic(auto, unfolding(lz_tree::specs::FirstForm::with_external))]
 fn declare(declared: &mut Declared, names: &[Name], external: &External) -> Result<(), FormError>
     ensures { Gives (λ _. declared_of declared.new) result (with_external names.now (declared_of declared.old)
         (tree.external_declaration external.now)) }
@@ -39,7 +39,7 @@ fn declare(declared: &mut Declared, names: &[Name], external: &External) -> Resu
 }
 
 /// Whether a function is `int main ( void )` (C99 5.1.2.2.1).
-#[tactic(auto, unfolding(lz_tree::specs::FirstFormTrees::is_main))]
+#[tactic(auto, unfolding(lz_tree::specs::FirstForm::is_main))]
 fn is_main(
     names: &[Name],
     hidden: bool,
@@ -54,7 +54,7 @@ fn is_main(
 }
 
 /// The statements of `main` (C99 5.1.2.2.1).
-#[tactic(auto, unfolding(lz_tree::specs::FirstFormTrees::main_of))]
+#[tactic(auto, unfolding(lz_tree::specs::FirstForm::main_of))]
 fn main_of(
     alloc: Global,
     names: &[Name],
@@ -111,7 +111,7 @@ fn read(alloc: Global, names: &[Name], externals: &[External]) -> Result<Scoped,
 
 /// The program of the first form that a tree means, or none where the tree has another form. Takes time and memory
 /// linear in the tree.
-#[tactic(auto, unfolding(lz_tree::specs::FirstFormTrees::first_form))]
+#[tactic(auto, unfolding(lz_tree::specs::FirstForm::first_form))]
 pub fn first_form(alloc: Global, of: &Program) -> Result<Option<Scoped>, Memory>
     // What is answered is the program that the tree means, and none is answered exactly where it means none.
     ensures meant { IfOk result (λ found. option_map program found ≡ first_form (tree.translation_unit of.now)) }

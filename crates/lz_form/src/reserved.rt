@@ -1,7 +1,7 @@
 ghost use Rattle.std.specs.Prelude.{◌≡◌, slice_get};
 ghost use Rattle.std.specs.List.{list_any};
 ghost use Rattle.std.specs.Str.{bytes_eq};
-ghost use Rattle.lz_tree.specs.FirstFormTrees.{known_names, is_reserved, is_named, is_free};
+ghost use Rattle.lz_tree.specs.FirstForm.{known_names, is_reserved, is_named, is_free};
 
 use lz_base::Name;
 
@@ -44,7 +44,7 @@ fn is_known_name(name: &str) -> bool
 }
 
 /// Whether no object may have the name: `main` or a known name.
-#[tactic(auto, unfolding(lz_tree::specs::FirstFormTrees::is_reserved))]
+#[tactic(auto, unfolding(lz_tree::specs::FirstForm::is_reserved))]
 fn is_reserved(name: &str) -> bool
     ensures { result ≡ is_reserved name.now }
 {
@@ -52,7 +52,7 @@ fn is_reserved(name: &str) -> bool
 }
 
 /// Whether the name of a number is a text.
-#[tactic(auto, unfolding(lz_tree::specs::FirstFormTrees::is_named))]
+#[tactic(auto, unfolding(lz_tree::specs::FirstForm::is_named))]
 pub fn is_named(text: &str, names: &[Name], number: u32) -> bool
     ensures { result ≡ is_named text.now names.now number }
 {
@@ -63,7 +63,7 @@ pub fn is_named(text: &str, names: &[Name], number: u32) -> bool
 }
 
 /// Whether an object may have the name of a number.
-#[tactic(auto, unfolding(lz_tree::specs::FirstFormTrees::is_free))]
+#[tactic(auto, unfolding(lz_tree::specs::FirstForm::is_free))]
 pub fn is_free(names: &[Name], number: u32) -> bool
     ensures { result ≡ is_free names.now number }
 {

@@ -1,7 +1,7 @@
 ghost use Rattle.std.specs.Prelude.{◌≡◌, map};
 ghost use Rattle.lz_tree.specs.Trees as tree;
 ghost use Rattle.lz_tree.specs.FirstFormScopes.{statement};
-ghost use Rattle.lz_tree.specs.FirstFormTrees.{statement_of, statements_of, body_of};
+ghost use Rattle.lz_tree.specs.FirstForm.{statement_of, statements_of, body_of};
 ghost use Rattle.lz_form.specs.Reading.{Gives};
 ghost use Rattle.lz_form.specs.Views.{declared_of};
 
@@ -14,7 +14,7 @@ use lz_tree::first_form::{ScopedStmt, ScopedStmts};
 use std::alloc::Global;
 
 /// An assignment or an assertion, and `;` (C99 6.8.3).
-#[tactic(auto, unfolding(lz_tree::specs::FirstFormTrees::statement_of))]
+#[tactic(auto, unfolding(lz_tree::specs::FirstForm::statement_of))]
 fn statement(
     alloc: Global,
     names: &[Name],
@@ -49,7 +49,7 @@ fn statements(
 }
 
 /// The statements of a body (C99 6.8.2).
-#[tactic(auto, unfolding(lz_tree::specs::FirstFormTrees::body_of))]
+#[tactic(auto, unfolding(lz_tree::specs::FirstForm::body_of))]
 pub fn body(
     alloc: Global,
     names: &[Name],

@@ -13,7 +13,7 @@ use Rattle.lz_tree.specs.declared.first_form.scoped.KnownName.TheVariants.{Asser
 use Rattle.lz_tree.specs.declared.first_form.scoped.Object.TheVariants.{Cell}
 use Rattle.lz_tree.specs.Trees as tree
 use Rattle.lz_tree.specs.FirstFormScopes.{Expression, constant, read, binary, assign, call, IsExpressionOf, Statement, eval, IsStatementOf, Program, IsWellFormed}
-use Rattle.lz_tree.specs.FirstFormTrees.{◌>>=◌, Declared, nothing_declared, cell_of, is_plain, operand_of, sum_of, most_operands, equation_of, assignment_of, assertion_of, effect_of, statement_of, statements_of, body_of, first_value, with_object, with_one, with_external, main_of, program_from, first_form}
+use Rattle.lz_tree.specs.FirstForm.{◌>>=◌, Declared, nothing_declared, cell_of, is_plain, operand_of, sum_of, most_operands, equation_of, assignment_of, assertion_of, effect_of, statement_of, statements_of, body_of, first_value, with_object, with_one, with_external, main_of, program_from, first_form}
 
 -- ---- options
 

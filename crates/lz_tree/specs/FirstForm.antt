@@ -1,119 +1,27 @@
--- Trusted: how tokens spell a program of the first form, which names it may have, and which program it means.
+-- Trusted: which trees are those of a text of the first form, and which program such a tree means.
 -- The form has declarations of `int` objects, then one `main` of assignments and assertions over sums.
-use Rattle.std.specs.Prelude.{◌≡◌, ℕ, ◌+◌, ◌≤◌, Bool, true, false, ◌||◌, List, [], ◌∷◌, ◌++◌, length, map, codes, if◌then◌else◌, Option, Some, None, IfSome, unwrap_or, ⊤}
-use Rattle.std.specs.List.{list_any, AllByRecursion}
+use Rattle.std.specs.Prelude.{ℕ, zero, suc, ◌==◌, nat_le, Bool, true, false, not, ◌&&◌, ◌||◌, List, [], ◌∷◌, ◌++◌, codes, if◌then◌else◌, Option, Some, None, option_map, position, slice_get}
+use Rattle.std.specs.List.{list_any}
 use Rattle.std.specs.Str.{bytes_eq}
-use Rattle.std.specs.Fmt.{decimal}
+use Rattle.lz_base.specs.declared.operator.Binary.{Binary}
 use Rattle.lz_base.specs.declared.operator.Binary.TheVariants.{Add, Eq}
-use Rattle.lz_base.specs.declared.word.IntType.TheVariants.{Int}
-use Rattle.lz_tree.specs.declared.first_form.token.Punct.TheVariants.{OpenParen, CloseParen, OpenBrace, CloseBrace, Semicolon, Assign, Equal, Plus}
+use Rattle.lz_base.specs.declared.word.IntType.TheVariants as kinds
+use Rattle.lz_tree.specs.declared.token.Form.{Form}
+use Rattle.lz_tree.specs.declared.expression.TypeName.{TypeName}
+use Rattle.lz_tree.specs.declared.expression.TypeName.TheVariants as types
+use Rattle.lz_tree.specs.declared.program.Param.{Param}
 use Rattle.lz_tree.specs.declared.first_form.scoped.KnownName.TheVariants.{Assert}
 use Rattle.lz_tree.specs.declared.first_form.scoped.Object.TheVariants.{Cell}
-use Rattle.lz_tree.specs.FirstFormTokens.{Piece, word, number, mark, Lexeme, HasLexemes}
+use Rattle.lz_tree.specs.Trees as tree
 use Rattle.lz_tree.specs.FirstFormScopes.{Expression, constant, read, binary, assign, call, Statement, eval, Program}
 
--- An operand: a name or a constant, and the line on which it stands.
-pub data Operand : Type 0 where
-  named : (line : ℕ) (name : List ℕ) → Operand
-  valued : (line value : ℕ) → Operand
+infixl 10 ◌>>=◌
+-- what follows, where there is something
+abbrev pub ◌>>=◌ : {A B : Type 0} → Option A → (A → Option B) → Option B
+(Some x) >>= f = f x
+None >>= f = None
 
--- A sum: one operand and those that are added to it, from left to right.
-pub record Sum : Type 0 where
-  pub first : Operand
-  pub added : List Operand
-
--- `NAME = sum ;` or `assert ( sum == sum ) ;`, with the line of its first token
-pub data FormStatement : Type 0 where
-  assignment : (line : ℕ) (target : List ℕ) (value : Sum) → FormStatement
-  assertion : (line : ℕ) (left right : Sum) → FormStatement
-
--- `int NAME ;` or `int NAME = CONSTANT ;`
-pub record Declaration : Type 0 where
-  pub name : List ℕ
-  pub initializer : Option ℕ
-
--- the declared objects, and what `main` does
-pub record FirstForm : Type 0 where
-  pub objects : List Declaration
-  pub statements : List FormStatement
-
--- ---- spelling
-
-abbrev pub lexeme : ℕ → Piece → Lexeme
-lexeme line piece = record { line = line; piece = piece }
-
--- an operand's one lexeme: a constant is decimal, without a leading 0 and without a suffix
-abbrev pub operand_lexeme : Operand → Lexeme
-operand_lexeme (named line name) = lexeme line (word name)
-operand_lexeme (valued line value) = lexeme line (number (decimal value))
-
--- the lexemes begin with `+ operand` for each of the operands, and these come after it
-abbrev pub BeginsWithAdded : List Operand → List Lexeme → List Lexeme → Type 0
-BeginsWithAdded [] lexemes after = lexemes ≡ after
-BeginsWithAdded (operand ∷ operands) lexemes after =
-    (a : ℕ) × (rest : List Lexeme) × (lexemes ≡ lexeme a (mark Plus) ∷ operand_lexeme operand ∷ rest) × BeginsWithAdded operands rest after
-
-abbrev pub BeginsWithSum : Sum → List Lexeme → List Lexeme → Type 0
-BeginsWithSum sum lexemes after =
-    (rest : List Lexeme) × (lexemes ≡ operand_lexeme sum.first ∷ rest) × BeginsWithAdded sum.added rest after
-
--- `int NAME ;`, or with `= CONSTANT` before the semicolon
-abbrev pub BeginsWithDeclared : List ℕ → Option ℕ → List Lexeme → List Lexeme → Type 0
-BeginsWithDeclared name None lexemes after =
-    (a b c : ℕ) × (lexemes ≡ lexeme a (word (codes "int")) ∷ lexeme b (word name) ∷ lexeme c (mark Semicolon) ∷ after)
-BeginsWithDeclared name (Some value) lexemes after =
-    (a b c d e : ℕ) × (lexemes ≡ lexeme a (word (codes "int")) ∷ lexeme b (word name) ∷ lexeme c (mark Assign)
-    ∷ lexeme d (number (decimal value)) ∷ lexeme e (mark Semicolon) ∷ after)
-
-abbrev pub BeginsWithObject : Declaration → List Lexeme → List Lexeme → Type 0
-BeginsWithObject object lexemes after = BeginsWithDeclared object.name object.initializer lexemes after
-
-abbrev pub BeginsWithObjects : List Declaration → List Lexeme → List Lexeme → Type 0
-BeginsWithObjects [] lexemes after = lexemes ≡ after
-BeginsWithObjects (object ∷ objects) lexemes after =
-    (rest : List Lexeme) × BeginsWithObject object lexemes rest × BeginsWithObjects objects rest after
-
--- `int main ( void ) {`
-abbrev pub BeginsWithHead : List Lexeme → List Lexeme → Type 0
-BeginsWithHead lexemes after =
-    (a b c d e f : ℕ) × (lexemes ≡ lexeme a (word (codes "int")) ∷ lexeme b (word (codes "main")) ∷ lexeme c (mark OpenParen)
-    ∷ lexeme d (word (codes "void")) ∷ lexeme e (mark CloseParen) ∷ lexeme f (mark OpenBrace) ∷ after)
-
-abbrev pub BeginsWithStatement : FormStatement → List Lexeme → List Lexeme → Type 0
-BeginsWithStatement (assignment line target value) lexemes after =
-    (a b : ℕ) × (rest : List Lexeme) × (lexemes ≡ lexeme line (word target) ∷ lexeme a (mark Assign) ∷ rest)
-    × BeginsWithSum value rest (lexeme b (mark Semicolon) ∷ after)
-BeginsWithStatement (assertion line left right) lexemes after =
-    (a b c d : ℕ) × (rest middle : List Lexeme) × (lexemes ≡ lexeme line (word (codes "assert")) ∷ lexeme a (mark OpenParen) ∷ rest)
-    × BeginsWithSum left rest (lexeme b (mark Equal) ∷ middle)
-    × BeginsWithSum right middle (lexeme c (mark CloseParen) ∷ lexeme d (mark Semicolon) ∷ after)
-
--- the statements and then the closing brace, with nothing after it
-abbrev pub AreStatements : List FormStatement → List Lexeme → Type 0
-AreStatements [] lexemes = (a : ℕ) × (lexemes ≡ lexeme a (mark CloseBrace) ∷ [])
-AreStatements (statement ∷ statements) lexemes =
-    (rest : List Lexeme) × BeginsWithStatement statement lexemes rest × AreStatements statements rest
-
--- the lexemes spell the form
-pub record Spells (form : FirstForm) (lexemes : List Lexeme) : Type 0 where
-  pub head : List Lexeme
-  pub body : List Lexeme
-  pub objects : BeginsWithObjects form.objects lexemes head
-  pub main : BeginsWithHead head body
-  pub statements : AreStatements form.statements body
-
--- ---- names and constants
-
--- the keywords (C99 6.4.1, and this project's own)
-abbrev pub keywords : List (List ℕ)
-keywords =
-    codes "auto" ∷ codes "break" ∷ codes "case" ∷ codes "char" ∷ codes "const" ∷ codes "continue" ∷ codes "default" ∷ codes "do"
-    ∷ codes "double" ∷ codes "else" ∷ codes "enum" ∷ codes "extern" ∷ codes "float" ∷ codes "for" ∷ codes "goto" ∷ codes "if"
-    ∷ codes "inline" ∷ codes "int" ∷ codes "long" ∷ codes "register" ∷ codes "restrict" ∷ codes "return" ∷ codes "short"
-    ∷ codes "signed" ∷ codes "sizeof" ∷ codes "static" ∷ codes "struct" ∷ codes "switch" ∷ codes "typedef" ∷ codes "union"
-    ∷ codes "unsigned" ∷ codes "void" ∷ codes "volatile" ∷ codes "while" ∷ codes "_Bool" ∷ codes "_Complex" ∷ codes "_Imaginary"
-    ∷ codes "pthread_t" ∷ codes "pthread_mutex_t" ∷ codes "pthread_cond_t" ∷ codes "NULL"
-    ∷ codes "PTHREAD_MUTEX_INITIALIZER" ∷ codes "PTHREAD_COND_INITIALIZER" ∷ []
+-- ---- names
 
 -- the names that have a meaning of their own
 abbrev pub known_names : List (List ℕ)
@@ -125,94 +33,169 @@ known_names =
     ∷ codes "pthread_cond_init" ∷ codes "pthread_cond_destroy" ∷ codes "pthread_cond_wait" ∷ codes "pthread_cond_signal"
     ∷ codes "pthread_cond_broadcast" ∷ codes "printf" ∷ []
 
--- the name is in the list
-abbrev pub is_among : List (List ℕ) → List ℕ → Bool
-is_among names name = list_any (bytes_eq name) names
-
--- no name of an object: a keyword, a known name or `main`
+-- no name of an object: `main` or a known name
 unfoldable pub is_reserved : List ℕ → Bool
-is_reserved name = is_among (codes "main" ∷ []) name || (is_among keywords name || is_among known_names name)
+is_reserved name = bytes_eq name (codes "main") || list_any (bytes_eq name) known_names
 
--- each name is none of those before it
-abbrev pub AreNew : List (List ℕ) → List (List ℕ) → Type 0
-AreNew before [] = ⊤
-AreNew before (name ∷ names) = (is_among before name ≡ false) × AreNew (before ++ name ∷ []) names
+abbrev pub is_text : List ℕ → Option (List ℕ) → Bool
+is_text text None = false
+is_text text (Some name) = bytes_eq name text
 
-abbrev pub names_of : List Declaration → List (List ℕ)
-names_of objects = map (λ object. object.name) objects
+-- the name of this number is this text
+unfoldable pub is_named : List ℕ → List (List ℕ) → ℕ → Bool
+is_named text names number = is_text text (slice_get names number)
 
--- a constant is a value of `int`
-abbrev pub IsConstant : ℕ → Type 0
-IsConstant value = value ≤ 2147483647
+abbrev pub is_free_text : Option (List ℕ) → Bool
+is_free_text None = false
+is_free_text (Some name) = not (is_reserved name)
 
--- a name that is used is declared
-abbrev pub IsOperandOf : List (List ℕ) → Operand → Type 0
-IsOperandOf names (named line name) = is_among names name ≡ true
-IsOperandOf names (valued line value) = IsConstant value
+-- an object may have the name of this number
+unfoldable pub is_free : List (List ℕ) → ℕ → Bool
+is_free names number = is_free_text (slice_get names number)
 
--- a sum has at most 100 operands
-pub record IsSumOf (names : List (List ℕ)) (sum : Sum) : Type 0 where
-  pub operand : IsOperandOf names sum.first
-  pub operands : AllByRecursion (IsOperandOf names) sum.added
-  pub at_most : length sum.added ≤ 99
+-- The objects that are declared: the numbers of their names, and their first values. An object's cell is its place.
+pub record Declared : Type 0 where
+  pub names : List ℕ
+  pub values : List ℕ
 
-abbrev pub IsFormStatementOf : List (List ℕ) → FormStatement → Type 0
-IsFormStatementOf names (assignment line target value) = (is_among names target ≡ true) × IsSumOf names value
-IsFormStatementOf names (assertion line left right) = IsSumOf names left × IsSumOf names right
+abbrev pub nothing_declared : Declared
+nothing_declared = record { names = []; values = [] }
 
--- no declared name is reserved, each is declared once, each that is used is declared, and each constant is a
--- value of `int`
-pub record HasNames (form : FirstForm) : Type 0 where
-  pub free : AllByRecursion (λ object. is_reserved object.name ≡ false) form.objects
-  pub new : AreNew [] (names_of form.objects)
-  pub initializers : AllByRecursion (λ object. IfSome object.initializer IsConstant) form.objects
-  pub used : AllByRecursion (IsFormStatementOf (names_of form.objects)) form.statements
+-- the name is declared
+unfoldable pub is_declared : Declared → ℕ → Bool
+is_declared declared name = list_any (λ other. name == other) declared.names
 
--- ---- meaning
+-- the cell of a declared name
+unfoldable pub cell_of : Declared → ℕ → Option ℕ
+cell_of declared name = position (λ other. name == other) declared.names
 
--- the number of a declared name: how many are declared before it
-abbrev pub number_in : List (List ℕ) → List ℕ → ℕ
-number_in [] name = 0
-number_in (first ∷ names) name = if bytes_eq name first then 0 else number_in names name + 1
+-- ---- expressions
 
-abbrev pub operand_meant : List (List ℕ) → Operand → Expression
-operand_meant names (named line name) = read line (Cell (number_in names name))
-operand_meant names (valued line value) = constant line value
+-- a constant that digits alone write: at most the greatest `int`, without a suffix, and decimal unless it is `0`, which
+-- is octal (C99 6.4.4.1)
+unfoldable pub is_plain : ℕ → Form → Bool
+is_plain value form =
+    nat_le value 2147483647 && (if value == 0 then not form.decimal else form.decimal) && not form.unsigned && form.longs == 0
 
-abbrev pub operand_line : Operand → ℕ
-operand_line (named line name) = line
-operand_line (valued line value) = line
+-- an operand: a declared name, or a constant
+unfoldable pub operand_of : Declared → tree.Expression → Option Expression
+operand_of declared (tree.constant line value form) = if is_plain value form then Some (constant line value) else None
+operand_of declared (tree.object line name tree.whole) = option_map (λ cell. read line (Cell cell)) (cell_of declared name)
+operand_of declared _ = None
 
--- a sum so far with more operands, grouped to the left; each sum begins on the line of the first operand
-abbrev pub added_meant : List (List ℕ) → ℕ → Expression → List Operand → Expression
-added_meant names line so_far [] = so_far
-added_meant names line so_far (operand ∷ operands) =
-    added_meant names line (binary line Add Int so_far (operand_meant names operand)) operands
+-- a sum of at most so many operands, which groups to the left
+unfoldable pub sum_of : Declared → ℕ → tree.Expression → Option Expression
+sum_of declared zero e = None
+sum_of declared (suc most) (tree.binary line Add left right) = do
+  first ← sum_of declared most left
+  last ← operand_of declared right
+  Some (binary line Add kinds.Int first last)
+sum_of declared (suc most) e = operand_of declared e
 
-abbrev pub sum_meant : List (List ℕ) → Sum → Expression
-sum_meant names sum = added_meant names (operand_line sum.first) (operand_meant names sum.first) sum.added
+-- the most operands of a sum
+abbrev pub most_operands : ℕ
+most_operands = 100
 
-abbrev pub statement_meant : List (List ℕ) → FormStatement → Statement
-statement_meant names (assignment line target value) =
-    eval (assign line (Cell (number_in names target)) (sum_meant names value))
-statement_meant names (assertion line left right) =
-    eval (call line Assert (binary (operand_line left.first) Eq Int (sum_meant names left) (sum_meant names right)))
+-- `sum == sum`
+unfoldable pub equation_of : Declared → tree.Expression → Option Expression
+equation_of declared (tree.binary line Eq left right) = do
+  first ← sum_of declared most_operands left
+  second ← sum_of declared most_operands right
+  Some (binary line Eq kinds.Int first second)
+equation_of declared _ = None
 
--- the program that a form means: its objects are cells in the order of their declarations, and start at their
--- initializer or at 0
-abbrev pub meant : FirstForm → Program
-meant form = record {
-  cells = map (λ object. unwrap_or object.initializer 0) form.objects;
-  main = map (statement_meant (names_of form.objects)) form.statements;
-}
+-- `NAME = sum`
+unfoldable pub assignment_of : Declared → ℕ → Option Binary → ℕ → tree.Index → tree.Expression → Option Expression
+assignment_of declared line None name tree.whole value = do
+  cell ← cell_of declared name
+  sum ← sum_of declared most_operands value
+  Some (assign line (Cell cell) sum)
+assignment_of declared line _ name _ value = None
 
--- ---- a file of the first form
+-- `assert ( sum == sum )`
+unfoldable pub assertion_of : List (List ℕ) → Declared → ℕ → ℕ → tree.Expressions → Option Expression
+assertion_of names declared line name (tree.and argument tree.none) =
+    if is_named (codes "assert") names name then option_map (call line Assert) (equation_of declared argument) else None
+assertion_of names declared line name _ = None
 
--- the bytes have the first form, and mean this program
-pub record IsFirstForm (bytes : List ℕ) (p : Program) : Type 0 where
-  pub form : FirstForm
-  pub lexemes : List Lexeme
-  pub cut : HasLexemes bytes lexemes
-  pub spelled : Spells form lexemes
-  pub names : HasNames form
-  pub meaning : p ≡ meant form
+-- ---- statements
+
+unfoldable pub effect_of : List (List ℕ) → Declared → tree.Expression → Option Expression
+effect_of names declared (tree.assign line op at name index value) = assignment_of declared line op name index value
+effect_of names declared (tree.call line name args) = assertion_of names declared line name args
+effect_of names declared _ = None
+
+-- an assignment or an assertion, and `;`
+unfoldable pub statement_of : List (List ℕ) → Declared → tree.Statement → Option Statement
+statement_of names declared (tree.eval e) = option_map eval (effect_of names declared e)
+statement_of names declared _ = None
+
+unfoldable pub statements_of : List (List ℕ) → Declared → tree.Statements → Option (List Statement)
+statements_of names declared tree.nil = Some []
+statements_of names declared (tree.cons s rest) = do
+  first ← statement_of names declared s
+  others ← statements_of names declared rest
+  Some (first ∷ others)
+
+unfoldable pub body_of : List (List ℕ) → Declared → tree.Statement → Option (List Statement)
+body_of names declared (tree.block parts) = statements_of names declared parts
+body_of names declared _ = None
+
+-- ---- external declarations
+
+-- what an object starts at: a constant, or 0
+unfoldable pub first_value : tree.Initializer → Option ℕ
+first_value tree.nothing = Some 0
+first_value (tree.single (tree.constant line value form)) = if is_plain value form then Some value else None
+first_value _ = None
+
+-- one more object, under a free name that is not declared
+unfoldable pub with_object : List (List ℕ) → Declared → ℕ → Option tree.Expression → tree.Initializer → Option Declared
+with_object names declared name None first =
+    if is_free names name && not (is_declared declared name)
+    then option_map (λ value. record { names = declared.names ++ name ∷ []; values = declared.values ++ value ∷ [] }) (first_value first)
+    else None
+with_object names declared name (Some length) first = None
+
+abbrev pub is_int : TypeName → Bool
+is_int types.Int = true
+is_int _ = false
+
+-- one object, where there is one declarator
+abbrev pub with_one : List (List ℕ) → Declared → List tree.InitDeclarator → Option Declared
+with_one names declared (one ∷ []) = with_object names declared one.name one.length one.first
+with_one names declared _ = None
+
+-- a declaration of one `int` object, without `static`
+unfoldable pub with_external : List (List ℕ) → Declared → tree.ExternalDeclaration → Option Declared
+with_external names declared (tree.objects hidden of) =
+    if not hidden && is_int of.base then with_one names declared of.declarators else None
+with_external names declared _ = None
+
+abbrev pub is_empty : {A : Type 0} → List A → Bool
+is_empty [] = true
+is_empty (first ∷ rest) = false
+
+-- `int main ( void )`
+unfoldable pub is_main : List (List ℕ) → Bool → TypeName → ℕ → List Param → Bool → Bool
+is_main names hidden gives name params void_word =
+    not hidden && is_int gives && is_named (codes "main") names name && is_empty params && void_word
+
+-- the statements of `main`
+unfoldable pub main_of : List (List ℕ) → Declared → tree.ExternalDeclaration → Option (List Statement)
+main_of names declared (tree.function line hidden gives name params void_word body) =
+    if is_main names hidden gives name params void_word then body_of names declared body else None
+main_of names declared _ = None
+
+-- each declares an object but the last, which is `main`
+unfoldable pub program_from : List (List ℕ) → Declared → List tree.ExternalDeclaration → Option Program
+program_from names declared [] = None
+program_from names declared (external ∷ []) =
+    option_map (λ main. record { cells = declared.values; main = main }) (main_of names declared external)
+program_from names declared (external ∷ (next ∷ rest)) = do
+  more ← with_external names declared external
+  program_from names more (next ∷ rest)
+
+-- the program that a tree of the first form means; a tree of another form means none
+unfoldable pub first_form : tree.TranslationUnit → Option Program
+first_form u = program_from u.names nothing_declared u.externals

@@ -1,7 +1,5 @@
-pub mod FirstFormTokens
 pub mod FirstFormScopes
 pub mod FirstForm
-pub mod FirstFormTrees
 pub mod Pieces
 pub mod Tokens
 pub mod Trees

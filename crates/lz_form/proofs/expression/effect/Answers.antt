@@ -1,5 +1,5 @@
 use Rattle.lz_tree.proofs.TreesLemmas.{is_call}
-use Rattle.lz_tree.specs.FirstFormTrees.{effect_of}
+use Rattle.lz_tree.specs.FirstForm.{effect_of}
 use Rattle.lz_form.proofs.expression.effect.Goals as goal
 
 pub returns-in-Call : goal.returns-in-Call

@@ -1,6 +1,6 @@
 use Rattle.lz_tree.specs.Trees.{translation_unit}
 use Rattle.lz_tree.specs.FirstFormScopes.{program}
-use Rattle.lz_tree.specs.FirstFormTrees.{first_form}
+use Rattle.lz_tree.specs.FirstForm.{first_form}
 use Rattle.lz_tree.proofs.FirstFormLemmas.{first_form_well_formed}
 use Rattle.lz_form.proofs.program.first_form.Goals as goal
 

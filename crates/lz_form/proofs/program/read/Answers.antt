@@ -1,7 +1,7 @@
 use Rattle.std.proofs.Common.{map}
 use Rattle.std.proofs.lemmas.Result.{err_from_is_err_and}
 use Rattle.lz_tree.specs.FirstFormScopes.{statement}
-use Rattle.lz_tree.specs.FirstFormTrees.{nothing_declared}
+use Rattle.lz_tree.specs.FirstForm.{nothing_declared}
 use Rattle.lz_form.specs.Views.{declared_of}
 use Rattle.lz_form.proofs.ErrorLemmas.{fails_on}
 use Rattle.lz_form.proofs.ProgramLemmas.{no_externals, no_objects, no_main, some_main}

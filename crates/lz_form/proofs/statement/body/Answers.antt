@@ -1,5 +1,5 @@
 use Rattle.lz_tree.proofs.TreesLemmas.{is_block}
-use Rattle.lz_tree.specs.FirstFormTrees.{body_of}
+use Rattle.lz_tree.specs.FirstForm.{body_of}
 use Rattle.lz_form.proofs.statement.body.Goals as goal
 
 pub returns-in-Block : goal.returns-in-Block

@@ -1,6 +1,0 @@
-use Rattle.std.proofs.lemmas.Str.{IsUtf8-from_ascii}
-use Rattle.lz_parse.proofs.Constants.{ok_from}
-use Rattle.lz_parse.proofs.token.text.Goals as goal
-
-pub unwrap-requires : goal.unwrap-requires
-unwrap-requires c = ok_from c.from_utf8.result _ _ c.from_utf8.ensures.cases (λ e bad. bad.0 (IsUtf8-from_ascii c.args.bytes.now c.requires))

@@ -1,4 +1,0 @@
-pub mod Reading
-pub mod Cutting
-pub mod Lexing
-pub mod Grammar
