@@ -6,7 +6,7 @@ use Rattle.lz_tree.specs.FirstForm.{first_form}
 use Rattle.lz_tree.specs.declared.token.Tokens.{Tokens}
 use Rattle.lz_tree.specs.Tokens.{HasTokens}
 use Rattle.lz_tree.specs.Trees.{TranslationUnit}
-use Rattle.lz_program.specs.Programs.{IsProgram, IsRefusedAt}
+use Rattle.lz_parse.specs.Programs.{IsProgram, IsRefusedAt}
 use Rattle.lz_model.specs.declared.schedule.Step.{Step}
 use Rattle.lz_model.specs.Rounds.{rounds_of, threads_of}
 use Rattle.lz_cnf.specs.declared.clause.Cnf.{Cnf}

@@ -7,7 +7,7 @@ use Rattle.lz_tree.specs.FirstFormScopes.{Program}
 use Rattle.lz_tree.specs.declared.token.Tokens.{Tokens}
 use Rattle.lz_tree.specs.Tokens.{HasTokens}
 use Rattle.lz_tree.specs.Trees.{TranslationUnit}
-use Rattle.lz_program.specs.Programs.{IsProgram, IsRefusedAt}
+use Rattle.lz_parse.specs.Programs.{IsProgram, IsRefusedAt}
 use Rattle.lz_model.specs.declared.schedule.Step.{Step}
 use Rattle.lz_model.specs.Violation.{Violated}
 use Rattle.lz_model.proofs.ViolationLemmas.{rounds_of_run-follows}

@@ -5,7 +5,7 @@ use Rattle.lz_outside.specs.Faults.{Rose}
 use Rattle.lz_outside.specs.Files.{Tells}
 use Rattle.lz_tree.specs.declared.token.Tokens.{Tokens}
 use Rattle.lz_tree.specs.FirstFormScopes.{Program}
-use Rattle.lz_program.specs.Programs.{IsRefusedAt}
+use Rattle.lz_parse.specs.Programs.{IsRefusedAt}
 use Rattle.lz_model.specs.Violation.{Violated}
 use Rattle.lz_cli.specs.declared.ending.Ending.{Ending}
 use Rattle.lz_cli.specs.declared.ending.Ending.TheVariants.{Successful, Failed, NotAToken, NotAProgram, NotBuilt, FileTooLong, ReadFault, OutOfMemory}

@@ -5,7 +5,7 @@ use Rattle.lz_tree.specs.Tokens.{HasTokens, cut, stopped}
 use Rattle.lz_tree.specs.Trees.{TranslationUnit}
 use Rattle.lz_tree.specs.FirstFormScopes.{Program}
 use Rattle.lz_tree.specs.FirstForm.{first_form}
-use Rattle.lz_program.specs.Programs.{IsProgram, IsRefusedAt}
+use Rattle.lz_parse.specs.Programs.{IsProgram, IsRefusedAt}
 
 -- the bytes have no cut into tokens; the longest cut ends at this place, on this line
 pub record HasNoTokens (bytes : List ℕ) (line place : ℕ) : Type 0 where

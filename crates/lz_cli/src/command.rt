@@ -23,7 +23,7 @@ use lz_base::{FILE_LIMIT, Memory, Name};
 use lz_form::first_form;
 use lz_lex::{LexError, lex};
 use lz_outside::{Failed, Folder, ReadError, Sink, read_all, write_all};
-use lz_program::{ParseError, parse};
+use lz_parse::{ParseError, parse};
 use lz_tree::first_form::Scoped;
 use lz_tree::{Program, Tokens};
 use std::alloc::Global;

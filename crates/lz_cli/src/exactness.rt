@@ -7,7 +7,7 @@ ghost use Rattle.lz_tree.specs.declared.token.Tokens.{Tokens};
 ghost use Rattle.lz_tree.specs.Tokens.{HasTokens};
 ghost use Rattle.lz_tree.specs.Trees.{TranslationUnit};
 ghost use Rattle.lz_tree.specs.FirstFormScopes.{Program};
-ghost use Rattle.lz_program.specs.Programs.{IsProgram, IsRefusedAt};
+ghost use Rattle.lz_parse.specs.Programs.{IsProgram, IsRefusedAt};
 ghost use Rattle.lz_cli.specs.declared.ending.Ending.{Ending};
 ghost use Rattle.lz_cli.specs.CommandLine.{IsFileName};
 ghost use Rattle.lz_base.specs.Limits.{file_limit};
@@ -15,7 +15,7 @@ ghost use Rattle.lz_cli.specs.Source.{HasNoTokens, IsFirstForm, IsOtherForm};
 ghost use Rattle.lz_cli.specs.Ending.{Call, IsLawful, NamesNoFile};
 ghost use Rattle.lz_cli.specs.Exactness.{IsToldFile, IsDecided, IsRefusal, IsEither};
 
-use lz_program::one_program;
+use lz_parse::one_program;
 
 /// What a lawful ending is, in every call where the folder tells the named file and no read failed, and where
 /// no file is named or the told files lack it.

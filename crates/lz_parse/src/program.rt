@@ -4,9 +4,9 @@ ghost use Rattle.lz_tree.specs.declared.token.Tokens.{Tokens};
 ghost use Rattle.lz_expr.specs.Reading.{and_then, pure};
 ghost use Rattle.lz_expr.specs.Grammar.{Reads};
 ghost use Rattle.lz_expr.specs.Lines.{line_of};
-ghost use Rattle.lz_program.specs.Grammar as spec;
-ghost use Rattle.lz_program.specs.Programs.{IsProgram, IsNoProgram};
-ghost use Rattle.lz_program.specs.Views.{IsNamedAt};
+ghost use Rattle.lz_parse.specs.Grammar as spec;
+ghost use Rattle.lz_parse.specs.Programs.{IsProgram, IsNoProgram};
+ghost use Rattle.lz_parse.specs.Views.{IsNamedAt};
 
 use crate::external::{begins_external, read_external};
 use crate::names::copied;

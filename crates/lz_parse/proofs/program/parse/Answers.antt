@@ -1,7 +1,7 @@
 use Rattle.std.proofs.Common.{map, ◌∙◌}
 use Rattle.lz_tree.specs.Trees.{external_declaration}
-use Rattle.lz_program.proofs.ProgramsLemmas.{is_program, refused_within, no_program}
-use Rattle.lz_program.proofs.program.parse.Goals as goal
+use Rattle.lz_parse.proofs.ProgramsLemmas.{is_program, refused_within, no_program}
+use Rattle.lz_parse.proofs.program.parse.Goals as goal
 
 pub overflow_sub-at : goal.overflow_sub-at
 overflow_sub-at c =

@@ -5,8 +5,8 @@ ghost use Rattle.lz_tree.specs.Languages.{is_mark};
 ghost use Rattle.lz_tree.specs.declared.token.Punct.TheVariants as marks;
 ghost use Rattle.lz_expr.specs.Reading.{starts};
 ghost use Rattle.lz_expr.specs.Grammar.{Reads};
-ghost use Rattle.lz_program.specs.Grammar as spec;
-ghost use Rattle.lz_program.specs.Views.{heading_of};
+ghost use Rattle.lz_parse.specs.Grammar as spec;
+ghost use Rattle.lz_parse.specs.Views.{heading_of};
 
 use crate::heading::{Heading, begins_lead, read_heading};
 use lz_expr::{Refusal, is_mark, mark};

@@ -22,7 +22,7 @@ use Rattle.lz_expr.proofs.TargetsLemmas.{the_name, name_shows}
 use Rattle.lz_grammar.specs.Grammar.{type_key, begins_type, lined_type}
 use Rattle.lz_grammar.proofs.AnyTypesLemmas.{TypeText, row_lined_type, type_heads, type_begins, type_some}
 use Rattle.lz_grammar.proofs.DeclarationsLemmas.{type_name_apart}
-use Rattle.lz_program.specs.Grammar.{lead_key, begins_lead, lead_of, lead_word, Heading, heading_of, heading, lined_heading}
+use Rattle.lz_parse.specs.Grammar.{lead_key, begins_lead, lead_of, lead_word, Heading, heading_of, heading, lined_heading}
 
 -- ---- `static` and `extern`
 

@@ -1,5 +1,5 @@
 use Rattle.std.proofs.Common.{◌≡◌, take}
-use Rattle.lz_program.proofs.names.copied.Given as goal
+use Rattle.lz_parse.proofs.names.copied.Given as goal
 
 abbrev pub invariant-loop-name : goal.invariant-loop-name
 invariant-loop-name l = l.copy ≡ take l.name-index l.names

@@ -4,8 +4,8 @@ use Rattle.lz_tree.specs.declared.token.Tokens.{Tokens}
 use Rattle.lz_expr.specs.Lines.{line_of}
 use Rattle.lz_expr.specs.declared.error.ParseError.{ParseError}
 use Rattle.lz_expr.specs.declared.error.ParseError.TheVariants.{NotAProgram, Memory}
-use Rattle.lz_program.specs.declared.heading.Heading.{Heading}
-use Rattle.lz_program.specs.Grammar as spec
+use Rattle.lz_parse.specs.declared.heading.Heading.{Heading}
+use Rattle.lz_parse.specs.Grammar as spec
 
 -- a heading, with the line of its first token
 abbrev pub heading_of : Heading → ℕ × spec.Heading

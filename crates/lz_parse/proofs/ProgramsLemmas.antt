@@ -19,10 +19,10 @@ use Rattle.lz_expr.proofs.RowsLemmas.{Row, made, along, row_of}
 use Rattle.lz_expr.proofs.ManyLemmas.{many_text, exact_many}
 use Rattle.lz_expr.proofs.WholeLemmas.{unique, refused_there, found_there}
 use Rattle.lz_expr.proofs.TokensLemmas.{no_text}
-use Rattle.lz_program.specs.Grammar.{begins_external, external, more_externals, externals, closed, program, height_limit, InExternal, InProgram}
-use Rattle.lz_program.specs.Programs.{IsProgram, BeginsProgram, IsRefusedAt, IsNoProgram}
-use Rattle.lz_program.specs.Views.{IsNamedAt}
-use Rattle.lz_program.proofs.ExternalsLemmas.{never, row_external, external_heads, external_begins}
+use Rattle.lz_parse.specs.Grammar.{begins_external, external, more_externals, externals, closed, program, height_limit, InExternal, InProgram}
+use Rattle.lz_parse.specs.Programs.{IsProgram, BeginsProgram, IsRefusedAt, IsNoProgram}
+use Rattle.lz_parse.specs.Views.{IsNamedAt}
+use Rattle.lz_parse.proofs.ExternalsLemmas.{never, row_external, external_heads, external_begins}
 
 -- another external declaration may always come
 abbrev pub goes_on : List ExternalDeclaration → Token → Bool

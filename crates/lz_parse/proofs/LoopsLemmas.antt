@@ -3,7 +3,7 @@ use Rattle.std.proofs.Common.{◌≡◌, ℕ, zero, suc, ◌+◌, ◌-◌, ◌<�
 use Rattle.std.specs.Prelude.{◌⊎◌}
 use Rattle.lz_expr.specs.Reading.{Outcome, gives, refused, Reader, and_then, pure, starts, many, behind}
 use Rattle.lz_grammar.specs.Grammar.{blocked, stmt}
-use Rattle.lz_program.specs.Grammar.{body}
+use Rattle.lz_parse.specs.Grammar.{body}
 
 module _ {K A : Type 0} (p : K → Bool) (item : Reader K A) where
   abbrev list : ℕ → Reader K (List A)

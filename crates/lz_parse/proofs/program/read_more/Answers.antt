@@ -3,10 +3,10 @@ use Rattle.std.proofs.lemmas.List.{map-append}
 use Rattle.std.proofs.lemmas.Result.{err_from_is_err_and}
 use Rattle.lz_tree.specs.Trees.{external_declaration}
 use Rattle.lz_expr.proofs.LoopsLemmas.{fails}
-use Rattle.lz_program.specs.Grammar.{begins_external, external}
-use Rattle.lz_program.proofs.LoopsLemmas.{many_more, many_fails, many_ends}
-use Rattle.lz_program.proofs.program.read_more.Goals as goal
-use Rattle.lz_program.proofs.program.read_more.Goals.{else-turns-test, then-turns-test+then-not-begins_external}
+use Rattle.lz_parse.specs.Grammar.{begins_external, external}
+use Rattle.lz_parse.proofs.LoopsLemmas.{many_more, many_fails, many_ends}
+use Rattle.lz_parse.proofs.program.read_more.Goals as goal
+use Rattle.lz_parse.proofs.program.read_more.Goals.{else-turns-test, then-turns-test+then-not-begins_external}
 
 pub returns-in_err-external : goal.returns-in_err-external
 returns-in_err-external c =

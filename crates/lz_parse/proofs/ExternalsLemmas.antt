@@ -31,8 +31,8 @@ use Rattle.lz_grammar.proofs.ParamsLemmas.{ParamsText, row_params}
 use Rattle.lz_grammar.proofs.FormsLemmas.{form, statement_goes, kind_first}
 use Rattle.lz_grammar.proofs.StatementsLemmas.{Of, row_block}
 use Rattle.lz_grammar.proofs.StatementHeightsLemmas.{row_statement}
-use Rattle.lz_program.specs.Grammar.{Heading, heading_of, is_hidden, is_outside, all_named, may_define, objects_of, prototype_of, function_of, objects_from, body, function_from, prototype_from, body_or_end, called_from, behind_heading, external, begins_lead, begins_external, InExternal, lined_heading}
-use Rattle.lz_program.proofs.HeadingsLemmas.{HeadingText, NameText, LinedHeading, row_lined_heading, heading_some, heading_heads, heading_begins}
+use Rattle.lz_parse.specs.Grammar.{Heading, heading_of, is_hidden, is_outside, all_named, may_define, objects_of, prototype_of, function_of, objects_from, body, function_from, prototype_from, body_or_end, called_from, behind_heading, external, begins_lead, begins_external, InExternal, lined_heading}
+use Rattle.lz_parse.proofs.HeadingsLemmas.{HeadingText, NameText, LinedHeading, row_lined_heading, heading_some, heading_heads, heading_begins}
 
 abbrev pub never : ExternalDeclaration → Token → Bool
 never e c = false

@@ -1,8 +1,8 @@
 ghost use Rattle.std.specs.Prelude.{◌≡◌};
 ghost use Rattle.lz_expr.specs.Reading.{gives, starts};
 ghost use Rattle.lz_expr.specs.Grammar.{Reads, key_meant};
-ghost use Rattle.lz_program.specs.Grammar as spec;
-ghost use Rattle.lz_program.specs.Views.{heading_of};
+ghost use Rattle.lz_parse.specs.Grammar as spec;
+ghost use Rattle.lz_parse.specs.Views.{heading_of};
 
 use lz_expr::{Refusal, line_at, name};
 use lz_grammar::read_type;

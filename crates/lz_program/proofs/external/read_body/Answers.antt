@@ -1,5 +1,0 @@
-use Rattle.lz_program.proofs.LoopsLemmas.{body_below}
-use Rattle.lz_program.proofs.external.read_body.Goals as goal
-
-pub returns : goal.returns
-returns c = rw (body_below c.args.height c.requires) c.read_block.ensures
