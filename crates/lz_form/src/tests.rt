@@ -28,8 +28,20 @@ fn file(alloc: Global, name: &str, gives: TypeName, void_word: bool) -> Result<P
 fn one_function(rt: HostRuntime) -> Result<(), Fail> {
     for (name, gives, void_word, has_form, reason) in [
         ("main", TypeName::Int, true, true, "`int main(void) { }`"),
-        ("main", TypeName::Int, false, false, "no `void` in the parentheses"),
-        ("main", TypeName::SignedInt, true, false, "`signed int` is spelled otherwise"),
+        (
+            "main",
+            TypeName::Int,
+            false,
+            false,
+            "no `void` in the parentheses",
+        ),
+        (
+            "main",
+            TypeName::SignedInt,
+            true,
+            false,
+            "`signed int` is spelled otherwise",
+        ),
         ("f", TypeName::Int, true, false, "another name"),
     ] {
         let program = file(rt.alloc(), name, gives, void_word)
