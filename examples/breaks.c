@@ -5,6 +5,6 @@ int main(void)
 {
     limit = 5;
     total = limit;
-    assert(total == limit);
-    assert(total == 4);
+    assert(total == limit); // holds: both are 5
+    assert(total == 4);     // breaks
 }

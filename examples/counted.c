@@ -1,3 +1,4 @@
+// A sum reads its operands before the assignment writes.
 int x;
 int main(void)
 {

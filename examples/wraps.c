@@ -1,4 +1,5 @@
-int x = 2147483647;
+#define LARGEST 2147483647 // the greatest int; one more wraps to the least
+int x = LARGEST;
 
 int main(void)
 {
