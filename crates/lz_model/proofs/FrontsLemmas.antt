@@ -52,11 +52,16 @@ module _ {S A B : Type 0} where
       go s acts more o g = elim (splits acts more g.front g.rest g.joined) [
         | inl z ↦ record { is = inl (p.front s acts z.0 (done g.middle g.value) (subst (λ (x : List Act). code s x (done g.middle g.value)) z.1 g.starts)) }
         | inr z ↦ record {
-            is = inr (record {
-              value = g.value; middle = g.middle; front = g.front; rest = z.0; joined = z.1; starts = g.starts;
-              goes = (q g.value).front g.middle z.0 more o (subst (λ (x : List Act). next g.value g.middle x o) z.2 g.goes);
-            });
-          }
+          is = inr (record {
+            value = g.value;
+            middle = g.middle;
+            front = g.front;
+            rest = z.0;
+            joined = z.1;
+            starts = g.starts;
+            goes = (q g.value).front g.middle z.0 more o (subst (λ (x : List Act). next g.value g.middle x o) z.2 g.goes);
+          });
+        }
       ]
 
       of : (s : S) (acts more : List Act) (o : Outcome S B) → (code and_then next) s (acts ++ more) o → (code and_then next) s acts cut
