@@ -8,3 +8,4 @@ pub mod ThreadFrontsLemmas
 pub mod CodeWitnesses
 pub mod FitsLemmas
 pub mod LocLemmas
+pub mod ScheduleLemmas
