@@ -9,3 +9,4 @@ pub mod CodeWitnesses
 pub mod FitsLemmas
 pub mod LocLemmas
 pub mod ScheduleLemmas
+pub mod StoreLemmas

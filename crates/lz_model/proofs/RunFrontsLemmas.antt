@@ -74,21 +74,25 @@ pub data Grows (before : State) (action : Action) (after : State) : Type 0 where
   as_many : length after.threads ≡ length before.threads → Grows before action after
   one_more : (start : Start) → started_by action ≡ Some start → start.thread ≡ length before.threads → length after.threads ≡ length before.threads + 1 → Grows before action after
 
-goes_is : (b : Bool) (s1 s2 : State) → goes_where b s1 ≡ went s2 → (b ≡ true) × (s1 ≡ s2)
+-- an action that goes where a test holds: it holds
+pub goes_is : (b : Bool) (s1 s2 : State) → goes_where b s1 ≡ went s2 → (b ≡ true) × (s1 ≡ s2)
 goes_is true s1 s2 e = (refl, cc)
 goes_is false s1 s2 e = absurd cc
 
-breaks_is : (b : Bool) (s1 s2 : State) (kind : BreakKind) → goes_or_breaks b s1 kind ≡ went s2 → s1 ≡ s2
+-- an action that goes or breaks: where it goes
+pub breaks_is : (b : Bool) (s1 s2 : State) (kind : BreakKind) → goes_or_breaks b s1 kind ≡ went s2 → s1 ≡ s2
 breaks_is true s1 s2 kind e = cc
 breaks_is false s1 s2 kind e = absurd cc
 
 many : (s s1 s2 : State) (action : Action) → length s1.threads ≡ length s.threads → s1 ≡ s2 → Grows s action s2
 many s s1 s2 action l e = as_many (sym (ap (λ (x : State). length x.threads) e) ∙ l)
 
-went_is : (s1 s2 : State) → went s1 ≡ went s2 → s1 ≡ s2
+-- where two actions go is one state
+pub went_is : (s1 s2 : State) → went s1 ≡ went s2 → s1 ≡ s2
 went_is s1 s2 e = cc
 
-joins_is : (c b : Bool) (s1 s2 : State) (kind : BreakKind) → cond c (broke kind) (goes_where b s1) ≡ went s2 → s1 ≡ s2
+-- a join that goes
+pub joins_is : (c b : Bool) (s1 s2 : State) (kind : BreakKind) → cond c (broke kind) (goes_where b s1) ≡ went s2 → s1 ≡ s2
 joins_is true b s1 s2 kind e = absurd cc
 joins_is false b s1 s2 kind e = (goes_is b s1 s2 e).1
 
