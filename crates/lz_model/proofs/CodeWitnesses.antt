@@ -1,5 +1,5 @@
 -- Traces of code that were worked out by hand.
-use Rattle.std.proofs.Common.{◌≡◌, ℕ, zero, suc, ◌⊎◌, inl, inr, Bool, true, false, List, [], ◌∷◌, ◌++◌, Option, Some, None, refl, lit<}
+use Rattle.std.proofs.Common.{ℕ, zero, suc, inl, inr, Bool, true, false, List, [], ◌∷◌, ◌++◌, Option, Some, None, refl, lit<}
 use Rattle.lz_base.specs.declared.word.BreakKind.TheVariants as kinds
 use Rattle.lz_base.specs.declared.word.IntType.{IntType}
 use Rattle.lz_base.specs.declared.word.IntType.TheVariants.{Int}
@@ -8,11 +8,11 @@ use Rattle.lz_tree.specs.declared.token.Form.{Form}
 use Rattle.lz_tree.specs.declared.scoped.KnownName.TheVariants as known
 use Rattle.lz_tree.specs.declared.scoped.Object.TheVariants.{Local, Cell, Routine, Known}
 use Rattle.lz_tree.specs.ScopedTrees.{ScopedExpression, constant, null, object, binary, assign, step, call, lvalue, whole, element, none, and, nothing, ScopedStatement, empty, eval, block, declare, while, for, continue, nil, cons, ScopedProgram}
-use Rattle.lz_model.specs.declared.actions.Action.TheVariants.{Loc, Input, Check, Rd, Wr, End}
+use Rattle.lz_model.specs.declared.actions.Action.TheVariants.{Loc, Input, Check, Rd, Wr}
 use Rattle.lz_model.specs.Actions.{Act}
-use Rattle.lz_model.specs.Behaviours.{Outcome, done, exits, cut, Behaviour, ends_with, halts, leaves, updates, stays, tells, chooses, ◌and_then◌, ◌gives◌}
-use Rattle.lz_model.specs.CodeTraces.{Locals, set_local, at, no_calls, expression_trace, Flow, normal, continues, statement_trace}
-use Rattle.lz_model.specs.Programs.{begun, calls_within, end_of, EndsThread, is_left, IsThreadTrace}
+use Rattle.lz_model.specs.Behaviours.{done, exits, cut, Behaviour, ends_with, halts, updates, tells, ◌and_then◌, ◌gives◌}
+use Rattle.lz_model.specs.CodeTraces.{Locals, at, no_calls, expression_trace, normal, continues, statement_trace}
+use Rattle.lz_model.specs.Programs.{end_of, is_left, IsThreadTrace}
 
 -- ---- the ways of putting code together, each with its parts
 

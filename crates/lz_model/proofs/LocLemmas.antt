@@ -1,19 +1,15 @@
 -- Loc left out of a run, and put in again just before its thread's next other event.
-use Rattle.std.proofs.Common.{◌≡◌, ◌≢◌, ℕ, zero, suc, ◌+◌, ◌≤◌, ◌⊎◌, inl, inr, Bool, true, false, ◌&&◌, ◌||◌, eqb, cond, List, [], ◌∷◌, ◌++◌, map, Option, Some, None, refl, sym, ◌∙◌, ap, subst, append_assoc, arith}
-use Rattle.std.specs.List.{flat_map}
+use Rattle.std.proofs.Common.{◌≡◌, ◌≢◌, ℕ, zero, suc, ◌≤◌, ◌⊎◌, inl, inr, Bool, true, false, ◌&&◌, ◌||◌, eqb, cond, List, [], ◌∷◌, ◌++◌, map, Option, Some, None, refl, sym, ◌∙◌, ap, subst, append_assoc, arith}
 use Rattle.std.proofs.lemmas.Bool.{eqb-true, eqb-false}
 use Rattle.lz_base.specs.declared.word.BreakKind.{BreakKind}
-use Rattle.lz_base.specs.Descents.{descents}
 use Rattle.lz_model.specs.declared.actions.Action.{Action}
 use Rattle.lz_model.specs.declared.actions.Action.TheVariants.{Loc, Input, Check, Assume, Rd, Wr, Reset, Lock, Unlock, Park, Wake, Signal, Broadcast, Create, Join, HoldOn, HoldOff, End}
 use Rattle.lz_model.specs.declared.actions.Event.{Event}
-use Rattle.lz_model.specs.declared.schedule.Step.{Step}
-use Rattle.lz_model.specs.Rounds.{rounds_of, threads_of}
-use Rattle.lz_model.specs.Actions.{Act, act_of, event_of, is_loc, Start, started_by, is_shared, choice_of}
+use Rattle.lz_model.specs.Actions.{Act, act_of, event_of, is_loc, Start, started_by, is_shared}
 use Rattle.lz_model.specs.Store.{State, Acted, went, blocked, broke, is_halted, held_by_another, act_free, act}
-use Rattle.lz_model.specs.Interleavings.{Process, Course, going, stuck, broken, course_after, course, part, start_or, start_of, MayDo, MayDoIn, IsRun}
-use Rattle.lz_model.specs.BrokenRuns.{IsBrokenRun, rounds_of_run, step_with, steps_of, schedule_of}
-use Rattle.lz_model.specs.WithoutLoc.{left_out, without_loc, events_without_loc, IsSeen, bare}
+use Rattle.lz_model.specs.Interleavings.{Process, Course, stuck, broken, course_after, course, part, start_or, start_of, MayDo, MayDoIn}
+use Rattle.lz_model.specs.BrokenRuns.{IsBrokenRun, rounds_of_run}
+use Rattle.lz_model.specs.WithoutLoc.{left_out, without_loc, events_without_loc, bare}
 use Rattle.lz_model.proofs.FitsLemmas.{Fits, nothing, stay, next, fits_descents}
 use Rattle.lz_model.proofs.RunFrontsLemmas.{IsOpen}
 

@@ -1,5 +1,5 @@
 -- A front of a run is a run.
-use Rattle.std.proofs.Common.{◌≡◌, ◌≢◌, ℕ, zero, suc, ◌+◌, ◌<◌, ◌≤◌, ◌⊎◌, inl, inr, Bool, true, false, not, ◌&&◌, ◌||◌, eqb, ltb, cond, List, [], ◌∷◌, ◌++◌, length, map, slice_index, slice_set, Option, Some, None, refl, sym, ◌∙◌, ap, subst, arith}
+use Rattle.std.proofs.Common.{◌≡◌, ◌≢◌, ℕ, zero, suc, ◌+◌, ◌≤◌, Bool, true, false, not, ◌&&◌, ◌||◌, eqb, ltb, cond, List, [], ◌∷◌, ◌++◌, length, map, slice_index, slice_set, Option, Some, None, refl, sym, ◌∙◌, ap, subst, arith}
 use Rattle.std.proofs.lemmas.List.{length-set, length-map, length-append}
 use Rattle.std.proofs.lemmas.Bool.{eqb-true, eqb-false}
 use Rattle.std.proofs.lemmas.Bool.Decides.{nat_tests}
@@ -7,11 +7,10 @@ use Rattle.lz_base.specs.declared.word.BreakKind.{BreakKind}
 use Rattle.lz_model.specs.declared.actions.Action.{Action}
 use Rattle.lz_model.specs.declared.actions.Action.TheVariants.{Loc, Input, Check, Assume, Rd, Wr, Reset, Lock, Unlock, Park, Wake, Signal, Broadcast, Create, Join, HoldOn, HoldOff, End}
 use Rattle.lz_model.specs.declared.actions.Event.{Event}
-use Rattle.lz_model.specs.declared.thread_state.ThreadState.{ThreadState}
 use Rattle.lz_model.specs.Actions.{Act, act_of, Start, started_by, is_shared}
 use Rattle.lz_base.specs.declared.word.BreakKind.TheVariants as kinds
-use Rattle.lz_model.specs.Store.{State, Acted, went, blocked, broke, fresh, is_now, is_made, is_waiting, is_free, owns, thread_at, has_waiter, waits_on, awake, woken_from, with_owner, with_thread, is_halted, held_by_another, goes_where, goes_or_breaks, signals, creates, joins, act_free, act}
-use Rattle.lz_model.specs.Interleavings.{Process, Course, going, stuck, broken, course_after, course, part, start_or, start_of, MayDo, MayDoIn, IsRun}
+use Rattle.lz_model.specs.Store.{State, Acted, went, blocked, broke, fresh, is_now, is_made, is_waiting, is_free, owns, thread_at, has_waiter, waits_on, awake, woken_from, with_owner, with_thread, is_halted, held_by_another, goes_where, goes_or_breaks, act_free, act}
+use Rattle.lz_model.specs.Interleavings.{Process, going, stuck, course_after, course, part, start_or, start_of, MayDo, MayDoIn, IsRun}
 
 -- ---- where events lead
 

@@ -1,8 +1,6 @@
 -- The schedule of a run, with Loc and without, and its rounds.
-use Rattle.std.proofs.Common.{◌≡◌, ℕ, ◌+◌, ◌≤◌, Bool, true, false, List, [], ◌∷◌, ◌++◌, map, Option, Some, None, refl, sym, ◌∙◌, ap, subst, arith}
-use Rattle.std.specs.List.{flat_map}
+use Rattle.std.proofs.Common.{◌≡◌, ℕ, ◌+◌, ◌≤◌, Bool, true, false, List, [], ◌∷◌, ◌++◌, map, Some, None, refl, sym, ◌∙◌, ap, arith}
 use Rattle.lz_base.specs.declared.word.BreakKind.{BreakKind}
-use Rattle.lz_base.specs.Descents.{descents}
 use Rattle.lz_model.specs.declared.actions.Action.{Action}
 use Rattle.lz_model.specs.declared.actions.Action.TheVariants.{Loc, Input, Check, Assume, Rd, Wr, Reset, Lock, Unlock, Park, Wake, Signal, Broadcast, Create, Join, HoldOn, HoldOff, End}
 use Rattle.lz_model.specs.declared.actions.Event.{Event}
@@ -10,11 +8,11 @@ use Rattle.lz_model.specs.declared.schedule.Step.{Step}
 use Rattle.lz_model.specs.Rounds.{rounds_of, threads_of}
 use Rattle.lz_model.specs.Actions.{is_loc, choice_of}
 use Rattle.lz_model.specs.Interleavings.{Process}
-use Rattle.lz_model.specs.BrokenRuns.{IsBrokenRun, rounds_of_run, step_with, steps_of, schedule_of, Follows}
-use Rattle.lz_model.specs.WithoutLoc.{left_out, events_without_loc, bare}
+use Rattle.lz_model.specs.BrokenRuns.{IsBrokenRun, rounds_of_run, steps_of, schedule_of, Follows}
+use Rattle.lz_model.specs.WithoutLoc.{left_out, events_without_loc}
 use Rattle.lz_model.proofs.FitsLemmas.{Fits, nothing, stay, next, fits_descents}
 use Rattle.lz_model.proofs.RunFrontsLemmas.{IsOpen}
-use Rattle.lz_model.proofs.LocLemmas.{IsFull, bare_breaks, full_breaks}
+use Rattle.lz_model.proofs.LocLemmas.{bare_breaks, full_breaks}
 
 -- an action but Loc has a choice
 record HasChoice (action : Action) : Type 0 where

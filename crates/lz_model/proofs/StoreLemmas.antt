@@ -1,5 +1,5 @@
 -- An action keeps the numbers of cells and of mutexes.
-use Rattle.std.proofs.Common.{◌≡◌, ℕ, zero, suc, Bool, true, false, not, ◌&&◌, ◌||◌, eqb, cond, List, [], ◌∷◌, ◌++◌, length, map, slice_index, slice_set, Option, Some, None, refl, sym, ◌∙◌, ap, subst}
+use Rattle.std.proofs.Common.{◌≡◌, ℕ, zero, suc, Bool, true, false, not, ◌&&◌, ◌||◌, eqb, cond, [], ◌∷◌, ◌++◌, length, map, slice_index, slice_set, Option, Some, None, refl, subst}
 use Rattle.std.proofs.lemmas.List.{length-set}
 use Rattle.lz_base.specs.declared.word.BreakKind.TheVariants as kinds
 use Rattle.lz_model.specs.declared.actions.Action.{Action}

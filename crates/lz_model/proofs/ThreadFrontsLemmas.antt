@@ -1,10 +1,10 @@
 -- A front of a thread's trace is a trace, so a program's process is open.
-use Rattle.std.proofs.Common.{◌≡◌, ℕ, zero, suc, Bool, true, false, List, [], ◌∷◌, ◌++◌, inl, inr, Option, Some, None, refl, sym, ◌∙◌, ap, subst}
+use Rattle.std.proofs.Common.{◌≡◌, ℕ, suc, Bool, true, false, List, [], ◌∷◌, ◌++◌, inl, inr, Option, Some, None, refl, sym, ◌∙◌, ap, subst}
 use Rattle.std.proofs.lemmas.List.{append-nil}
 use Rattle.lz_tree.specs.ScopedTrees.{ScopedProgram}
 use Rattle.lz_model.specs.Actions.{Act, Start, started_by}
 use Rattle.lz_model.specs.Behaviours.{Outcome, done, exits, cut, Behaviour}
-use Rattle.lz_model.specs.Programs.{end_of, EndsThread, is_cut, is_done, is_left, numbered_after, CreatesFrom, begun, calls_within, IsThreadTrace, process_of}
+use Rattle.lz_model.specs.Programs.{end_of, EndsThread, is_cut, is_done, is_left, numbered_after, CreatesFrom, IsThreadTrace, process_of}
 use Rattle.lz_model.proofs.FrontsLemmas.{Fronts, splits, fronts_calls}
 use Rattle.lz_model.proofs.RunFrontsLemmas.{IsOpen}
 
