@@ -3,3 +3,10 @@ pub mod RunsLemmas
 pub mod ViolationLemmas
 pub mod StoreWitnesses
 pub mod FrontsLemmas
+pub mod RunFrontsLemmas
+pub mod ThreadFrontsLemmas
+pub mod CodeWitnesses
+pub mod FitsLemmas
+pub mod LocLemmas
+pub mod ScheduleLemmas
+pub mod StoreLemmas

@@ -3,11 +3,11 @@
 use Rattle.std.proofs.Common.{◌≡◌, ℕ, true, false, List, [], ◌∷◌, Some, None, refl}
 use Rattle.lz_base.specs.declared.word.BreakKind.TheVariants as kinds
 use Rattle.lz_model.specs.declared.actions.Action.{Action}
-use Rattle.lz_model.specs.declared.actions.Action.TheVariants.{Loc, Input, Check, Assume, Rd, Wr, Lock, Unlock, Park, Wake, Signal, Broadcast, Create, Join, HoldOn, HoldOff, End}
+use Rattle.lz_model.specs.declared.actions.Action.TheVariants.{Loc, Check, Assume, Rd, Wr, Lock, Unlock, Park, Wake, Signal, Broadcast, Create, Join, HoldOn, HoldOff, End}
 use Rattle.lz_model.specs.declared.actions.Event.{Event}
-use Rattle.lz_model.specs.Store.{State, opening, fresh}
+use Rattle.lz_model.specs.Store.{opening, fresh}
 use Rattle.lz_model.specs.Interleavings.{going, stuck, broken, course}
-use Rattle.lz_model.specs.BrokenRuns.{rounds_of_run, schedule_of}
+use Rattle.lz_model.specs.BrokenRuns.{rounds_of_run}
 
 -- thread, action, line
 abbrev pub of : ℕ → Action → ℕ → Event

@@ -12,3 +12,4 @@ pub mod ScheduleText
 pub mod Behaviours
 pub mod CodeTraces
 pub mod Programs
+pub mod WithoutLoc

@@ -6,10 +6,15 @@
 
 pub mod action;
 mod actions;
+mod laws;
 mod schedule;
 mod thread_state;
 
 pub use actions::{Action, Event};
+pub use laws::{
+    broken_in_its_rounds, broken_without_loc, front_of_a_run, front_of_a_trace,
+    rounds_of_a_schedule,
+};
 pub use schedule::{Schedule, Step, rounds};
 pub use thread_state::ThreadState;
 
