@@ -1,17 +1,17 @@
 -- What the numbers of a tree owe to the numbers of the functions that it calls: where these agree, so do those.
-use Rattle.std.proofs.Common.{◌≡◌, ℕ, zero, suc, ◌+◌, ◌*◌, ◌<◌, List, [], ◌∷◌, ◌++◌, Option, Some, None, refl, ap, sym, ◌∙◌, arith}
+use Rattle.std.proofs.Common.{◌≡◌, ℕ, ◌+◌, ◌*◌, List, [], ◌∷◌, ◌++◌, Option, Some, None, refl, ap, ◌∙◌, arith}
 use Rattle.std.specs.List.{Contains}
 use Rattle.std.proofs.lemmas.List.Elements.{Contains-append_left, Contains-append_right}
 use Rattle.lz_tree.specs.declared.scoped.Object.{Object}
 use Rattle.lz_tree.specs.declared.scoped.Object.TheVariants.{Local, Cell, Mutex, Cond, Handle, Routine, Known}
 use Rattle.lz_tree.specs.declared.scoped.KnownName.{KnownName}
 use Rattle.lz_tree.specs.declared.scoped.KnownName.TheVariants.{Assert, Assume, NondetInt, NondetUint, Error, ReachError, Abort, AtomicBegin, AtomicEnd, Create, Join, Exit, MutexInit, MutexDestroy, MutexLock, MutexUnlock, CondInit, CondDestroy, CondWait, CondSignal, CondBroadcast, Printf}
-use Rattle.lz_tree.specs.ScopedTrees.{ScopedExpression, constant, null, text, object, address, paren, unary, cast, binary, choose, assign, step, call, Lvalue, lvalue, ScopedIndex, whole, element, ScopedExpressions, none, and, ScopedInitializer, nothing, single, listed, ScopedInitDeclarator, ScopedDeclaration, ScopedStatement, empty, eval, block, declare, when, while, do_while, for, break, continue, return, label, ScopedBranch, absent, branch, ScopedStatements, nil, cons}
+use Rattle.lz_tree.specs.ScopedTrees.{ScopedExpression, constant, null, text, object, address, paren, unary, cast, binary, choose, assign, step, call, lvalue, ScopedIndex, whole, element, ScopedExpressions, none, and, ScopedInitializer, nothing, single, listed, ScopedInitDeclarator, ScopedStatement, empty, eval, block, declare, when, while, do_while, for, break, continue, return, label, ScopedBranch, absent, branch, ScopedStatements, nil, cons}
 use Rattle.lz_tree.specs.Calls.{called, expression_calls, index_calls, expressions_calls, optional_calls, initializer_calls, declarators_calls, statement_calls, branch_calls, statements_calls}
 use Rattle.lz_slots.specs.Nesting.{saturated}
 use Rattle.lz_slots.specs.CostTable.{known_number, turn_number}
-use Rattle.lz_slots.specs.Costs.{Rates, callee_cost, expression_cost, index_cost, expressions_cost, optional_cost, initializer_cost, declarator_cost, declarators_cost, loop_cost, statement_cost, branch_cost, statements_cost}
-use Rattle.lz_slots.specs.Slots.{SiteRates, start_of, known_sites, callee_sites, expression_sites, index_sites, expressions_sites, optional_sites, initializer_sites, declarator_sites, declarators_sites, statement_sites, branch_sites, statements_sites}
+use Rattle.lz_slots.specs.Costs.{Rates, callee_cost, expression_cost, index_cost, expressions_cost, optional_cost, initializer_cost, declarators_cost, loop_cost, statement_cost, branch_cost, statements_cost}
+use Rattle.lz_slots.specs.Slots.{SiteRates, start_of, known_sites, callee_sites, expression_sites, index_sites, expressions_sites, optional_sites, initializer_sites, declarators_sites, statement_sites, branch_sites, statements_sites}
 use Rattle.lz_slots.proofs.SaturationLemmas.{saturated_sum, saturated_product}
 
 -- What is seen of numbers that tells sums from what is seen of the parts: all, or where they stop.

@@ -1,5 +1,5 @@
 -- The arguments of a call as the items of a list.
-use Rattle.std.proofs.Common.{◌≡◌, ℕ, suc, ◌<◌, List, [], ◌∷◌, length, map, refl, ap, arith}
+use Rattle.std.proofs.Common.{◌≡◌, suc, ◌<◌, List, [], ◌∷◌, length, map, refl, ap, arith}
 use Rattle.lz_tree.specs.ScopedTrees.{ScopedExpression, scoped_expressions_of}
 use Rattle.lz_slots.specs.Slots.{start_of}
 use Rattle.lz_slots.specs.Costs.{number_of, second_length}

@@ -1,15 +1,15 @@
 -- Costs and sites of a function's body owe to other functions only the numbers of those that it calls.
 use Rattle.std.proofs.Common.{◌≡◌, ℕ, zero, suc, ◌+◌, ◌<◌, ◌≤◌, List, [], ◌∷◌, length, get_or, map, slice_index, ◌*◌, refl, ap, sym, ◌∙◌, arith}
 use Rattle.lz_tree.specs.declared.scoped.ScopedFunction.{ScopedFunction}
-use Rattle.lz_tree.specs.ScopedTrees.{ScopedStatement, empty, ScopedDefinition, ScopedProgram, scoped_statement, scoped_definition}
+use Rattle.lz_tree.specs.ScopedTrees.{empty, ScopedDefinition, ScopedProgram, scoped_statement, scoped_definition}
 use Rattle.lz_tree.specs.Calls.{body_at}
-use Rattle.lz_slots.specs.Nesting.{through_calls, saturated}
+use Rattle.lz_slots.specs.Nesting.{saturated}
 use Rattle.lz_slots.specs.CostTable.{thread_number}
-use Rattle.lz_slots.specs.Costs.{Rates, cost_step, body_cost, thread_cost, statement_cost, cost}
+use Rattle.lz_slots.specs.Costs.{cost_step, body_cost, thread_cost, statement_cost, cost}
 use Rattle.lz_slots.specs.Walking.{weight_of}
 use Rattle.lz_slots.specs.declared.sites.SiteWeight.TheVariants.{Thread}
-use Rattle.lz_slots.specs.Slots.{SiteRates, sites_step, function_sites, statement_sites, slots}
-use Rattle.lz_slots.proofs.AgreementLemmas.{Agree, sees_all, sees_saturated, statement_agrees, statement_sites_agree}
+use Rattle.lz_slots.specs.Slots.{sites_step, function_sites, statement_sites, slots}
+use Rattle.lz_slots.proofs.AgreementLemmas.{sees_all, sees_saturated, statement_agrees, statement_sites_agree}
 use Rattle.lz_slots.proofs.SaturationLemmas.{saturated_product}
 use Rattle.lz_slots.proofs.NestingLemmas.{IsLocal, through_alike}
 

@@ -1,10 +1,9 @@
 -- Numbers of functions through their calls: they settle in the order of calls, function by function.
-use Rattle.std.proofs.Common.{◌≡◌, ℕ, zero, suc, ◌+◌, ◌<◌, ◌≤◌, ◌⊎◌, inl, inr, List, [], ◌∷◌, length, get_or, set, get_or-set_same, get_or-set_other, slice_index, refl, ap, sym, ◌∙◌, subst, arith, ◌≢◌, map}
-use Rattle.std.specs.List.{All}
+use Rattle.std.proofs.Common.{◌≡◌, ℕ, zero, suc, ◌+◌, ◌<◌, ◌≤◌, inl, inr, List, length, set, get_or-set_same, get_or-set_other, slice_index, refl, ap, sym, ◌∙◌, subst, arith}
 use Rattle.std.proofs.lemmas.Bool.{cases_eq, cases_lt}
 use Rattle.std.proofs.lemmas.List.{get_or_past}
 use Rattle.std.proofs.lemmas.List.Elements.{All-contains}
-use Rattle.lz_tree.specs.ScopedTrees.{ScopedStatement, empty, ScopedDefinition}
+use Rattle.lz_tree.specs.ScopedTrees.{ScopedDefinition}
 use Rattle.lz_tree.specs.Calls.{statement_calls, body_at, StandsBefore, IsCallOrder}
 use Rattle.lz_slots.specs.Nesting.{through_calls, saturated}
 use Rattle.lz_slots.proofs.AgreementLemmas.{Agree}

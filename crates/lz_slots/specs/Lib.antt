@@ -3,3 +3,4 @@ pub mod CostTable
 pub mod Slots
 pub mod Costs
 pub mod Walking
+pub mod Example

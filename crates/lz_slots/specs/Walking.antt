@@ -1,5 +1,5 @@
 -- Inner: what the walks over a program are given, as the definitions read it.
-use Rattle.std.specs.Prelude.{ℕ, ◌+◌, ◌<◌, ◌≡◌, List, slice_index}
+use Rattle.std.specs.Prelude.{ℕ, ◌+◌, List, slice_index}
 use Rattle.lz_slots.specs.declared.sites.SiteWeight.{SiteWeight}
 use Rattle.lz_slots.specs.declared.sites.SiteWeight.TheVariants.{One, Thread}
 use Rattle.lz_slots.specs.CostTable.{thread_number}

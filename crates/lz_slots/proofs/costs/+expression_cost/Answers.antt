@@ -1,8 +1,8 @@
-use Rattle.std.proofs.Common.{◌≡◌, ◌∙◌, ◌+◌, map, ap, sym, arith}
-use Rattle.lz_tree.specs.ScopedTrees.{scoped_expression, scoped_expressions_of, scoped_index_of}
+use Rattle.std.proofs.Common.{◌≡◌, ◌∙◌, ◌+◌, ap, sym, arith}
+use Rattle.lz_tree.specs.ScopedTrees.{scoped_expression, scoped_index_of}
 use Rattle.lz_tree.proofs.ScopedTreesLemmas.{scoped_index-back, is_scoped_call}
 use Rattle.lz_slots.specs.Nesting.{saturated}
-use Rattle.lz_slots.specs.Costs.{Rates, assignment_number, index_cost, expression_cost, expressions_cost}
+use Rattle.lz_slots.specs.Costs.{Rates, assignment_number, index_cost, expression_cost}
 use Rattle.lz_slots.specs.Walking.{rates_of}
 use Rattle.lz_slots.proofs.SumLemmas.{expressions_cost-of, sum_end}
 use Rattle.lz_slots.proofs.costs.+expression_cost.Goals as goal

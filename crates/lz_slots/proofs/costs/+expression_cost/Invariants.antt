@@ -1,4 +1,3 @@
-use Rattle.std.proofs.Common.{◌≡◌, ◌+◌, drop}
 use Rattle.lz_tree.specs.ScopedTrees.{scoped_expression}
 use Rattle.lz_slots.specs.Costs.{expression_cost}
 use Rattle.lz_slots.specs.Walking.{rates_of}

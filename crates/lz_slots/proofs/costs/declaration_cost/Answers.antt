@@ -1,7 +1,7 @@
-use Rattle.std.proofs.Common.{◌≡◌, ◌∙◌, map, ap, sym, arith}
+use Rattle.std.proofs.Common.{◌∙◌, ap, sym, arith}
 use Rattle.lz_tree.specs.ScopedTrees.{scoped_declarator}
 use Rattle.lz_slots.specs.Nesting.{saturated}
-use Rattle.lz_slots.specs.Costs.{Rates, declarator_cost, declarators_cost}
+use Rattle.lz_slots.specs.Costs.{Rates, declarator_cost}
 use Rattle.lz_slots.specs.Walking.{rates_of}
 use Rattle.lz_slots.proofs.SumLemmas.{declarators_cost-of, sum_end, total}
 use Rattle.lz_slots.proofs.costs.declaration_cost.Goals as goal

@@ -1,4 +1,3 @@
-use Rattle.std.proofs.Common.{◌≡◌, ℕ}
 use Rattle.lz_slots.proofs.SaturationLemmas.{saturated_loop}
 use Rattle.lz_slots.proofs.costs.loop_cost.Goals as goal
 

@@ -2,7 +2,7 @@ use Rattle.std.proofs.Common.{◌≡◌, ℕ, ◌<◌, ◌∙◌, length, map, s
 use Rattle.std.proofs.lemmas.List.{length-map}
 use Rattle.std.proofs.lemmas.List.Elements.{All-get_or}
 use Rattle.lz_tree.specs.ScopedTrees.{scoped_definition}
-use Rattle.lz_slots.proofs.NestingLemmas.{IsLocal, numbers_turn, numbers_end}
+use Rattle.lz_slots.proofs.NestingLemmas.{numbers_turn, numbers_end}
 use Rattle.lz_slots.proofs.LocalLemmas.{cost_is_local}
 use Rattle.lz_slots.proofs.program.body_costs.Goals as goal
 

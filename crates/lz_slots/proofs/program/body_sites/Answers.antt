@@ -3,7 +3,7 @@ use Rattle.std.proofs.lemmas.List.{length-map}
 use Rattle.std.proofs.lemmas.List.Elements.{All-get_or}
 use Rattle.lz_tree.specs.ScopedTrees.{scoped_definition}
 use Rattle.lz_slots.specs.Walking.{weight_of}
-use Rattle.lz_slots.proofs.NestingLemmas.{IsLocal, numbers_turn, numbers_end}
+use Rattle.lz_slots.proofs.NestingLemmas.{numbers_turn, numbers_end}
 use Rattle.lz_slots.proofs.LocalLemmas.{sites_are_local}
 use Rattle.lz_slots.proofs.program.body_sites.Goals as goal
 

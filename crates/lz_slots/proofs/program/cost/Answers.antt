@@ -1,4 +1,3 @@
-use Rattle.std.proofs.Common.{◌≡◌, map}
 use Rattle.lz_tree.specs.ScopedTrees.{scoped_program}
 use Rattle.lz_slots.proofs.LocalLemmas.{cost_made}
 use Rattle.lz_slots.proofs.program.cost.Goals as goal

@@ -1,8 +1,8 @@
-use Rattle.std.proofs.Common.{◌≡◌, ◌∙◌, ◌+◌, map, ap, sym, arith}
-use Rattle.lz_tree.specs.ScopedTrees.{scoped_expression, scoped_expressions_of, scoped_index_of}
-use Rattle.lz_tree.proofs.ScopedTreesLemmas.{scoped_index-back, is_scoped_call}
+use Rattle.std.proofs.Common.{◌∙◌, ap, sym, arith}
+use Rattle.lz_tree.specs.ScopedTrees.{scoped_expression}
+use Rattle.lz_tree.proofs.ScopedTreesLemmas.{is_scoped_call}
 use Rattle.lz_slots.specs.Nesting.{saturated}
-use Rattle.lz_slots.specs.Slots.{SiteRates, expression_sites, expressions_sites}
+use Rattle.lz_slots.specs.Slots.{SiteRates, expression_sites}
 use Rattle.lz_slots.specs.Walking.{site_rates_of}
 use Rattle.lz_slots.proofs.SumLemmas.{expressions_sites-of, sum_end}
 use Rattle.lz_slots.proofs.sites.+expression_sites.Goals as goal

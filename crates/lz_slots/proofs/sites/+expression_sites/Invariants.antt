@@ -1,4 +1,3 @@
-use Rattle.std.proofs.Common.{◌≡◌, ◌+◌, drop}
 use Rattle.lz_tree.specs.ScopedTrees.{scoped_expression}
 use Rattle.lz_slots.specs.Slots.{expression_sites}
 use Rattle.lz_slots.specs.Walking.{site_rates_of}

@@ -1,8 +1,8 @@
-use Rattle.std.proofs.Common.{◌≡◌, ◌∙◌, map, ap, sym, arith}
-use Rattle.lz_tree.specs.ScopedTrees.{scoped_statement, scoped_statements_of}
+use Rattle.std.proofs.Common.{◌∙◌, ap, sym, arith}
+use Rattle.lz_tree.specs.ScopedTrees.{scoped_statement}
 use Rattle.lz_tree.proofs.ScopedTreesLemmas.{is_scoped_block}
 use Rattle.lz_slots.specs.Nesting.{saturated}
-use Rattle.lz_slots.specs.Slots.{SiteRates, statement_sites, statements_sites}
+use Rattle.lz_slots.specs.Slots.{SiteRates, statement_sites}
 use Rattle.lz_slots.specs.Walking.{site_rates_of}
 use Rattle.lz_slots.proofs.SumLemmas.{statements_sites-of, sum_end}
 use Rattle.lz_slots.proofs.sites.+statement_sites.Goals as goal

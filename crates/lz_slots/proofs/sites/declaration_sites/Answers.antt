@@ -1,7 +1,7 @@
-use Rattle.std.proofs.Common.{◌≡◌, ◌∙◌, map, ap, sym, arith}
+use Rattle.std.proofs.Common.{◌∙◌, ap, sym, arith}
 use Rattle.lz_tree.specs.ScopedTrees.{scoped_declarator}
 use Rattle.lz_slots.specs.Nesting.{saturated}
-use Rattle.lz_slots.specs.Slots.{SiteRates, declarator_sites, declarators_sites}
+use Rattle.lz_slots.specs.Slots.{SiteRates, declarator_sites}
 use Rattle.lz_slots.specs.Walking.{site_rates_of}
 use Rattle.lz_slots.proofs.SumLemmas.{declarators_sites-of, sum_end, total}
 use Rattle.lz_slots.proofs.sites.declaration_sites.Goals as goal

@@ -1,4 +1,4 @@
-use Rattle.std.proofs.Common.{◌≡◌, ℕ, ◌∙◌, arith}
+use Rattle.std.proofs.Common.{◌≡◌, ◌∙◌, arith}
 use Rattle.lz_slots.specs.Nesting.{saturated}
 use Rattle.lz_slots.proofs.SaturationLemmas.{saturated_product}
 use Rattle.lz_slots.proofs.sites.turns_sites.Goals as goal
