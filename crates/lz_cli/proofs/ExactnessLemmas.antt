@@ -289,3 +289,21 @@ proof_too_long_ends call content FileTooLong told long lawful = absurd (one_kind
 proof_too_long_ends call content ProofTooLong told long lawful = refl
 proof_too_long_ends call content (ReadFault name) told long lawful = absurd (no_proof_fault call content name told lawful.named lawful.cause)
 proof_too_long_ends call content OutOfMemory told long lawful = tt
+
+not_lacking_proof : (call : Call) (name bytes : List ℕ) → IsProofName call.words name → Lacks call.files name → IsProofSource call bytes → ⊥
+not_lacking_proof call name bytes named lacks source =
+    lacking_holds call.files name bytes lacks (subst (λ (n : List ℕ). Holds call.files n bytes) (same_proof call.words source.name name source.named named) source.held)
+
+pub missing_proof_ends : (call : Call) (name : List ℕ) (ending : Ending) → IsProofName call.words name → Lacks call.files name → IsLawful call ending → IsEither (ReadFault name) ending
+missing_proof_ends call name (Successful unwind rounds formula log) named lacks lawful = absurd (one_kind call.words lawful.1.name name lawful.1.named named)
+missing_proof_ends call name (Failed kind line schedule) named lacks lawful = absurd (one_kind call.words lawful.1.name name lawful.1.named named)
+missing_proof_ends call name (NotAToken line place) named lacks lawful = absurd (one_kind call.words lawful.1.name name lawful.1.named named)
+missing_proof_ends call name (NotAProgram line token) named lacks lawful = absurd (one_kind call.words lawful.1.name name lawful.1.named named)
+missing_proof_ends call name (Recheck answer) named lacks lawful = absurd (not_lacking_proof call name lawful.0 named lacks lawful.1)
+missing_proof_ends call name (NotBuilt line) named lacks (inl lawful) = absurd (one_kind call.words lawful.1.name name lawful.1.named named)
+missing_proof_ends call name (NotBuilt line) named lacks (inr lawful) = absurd (lawful.0 name (inr named))
+missing_proof_ends call name FileTooLong named lacks lawful = absurd (one_kind call.words lawful.name name lawful.named named)
+missing_proof_ends call name ProofTooLong named lacks lawful =
+    absurd (lacking_longer call.files name proof_limit lacks (subst (λ (n : List ℕ). IsLonger call.files n proof_limit) (same_proof call.words lawful.name name lawful.named named) lawful.longer))
+missing_proof_ends call name (ReadFault other) named lacks lawful = ap ReadFault (same_proof call.words name other named (named_proof call.words name other named lawful.named))
+missing_proof_ends call name OutOfMemory named lacks lawful = tt

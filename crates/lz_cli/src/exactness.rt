@@ -9,7 +9,7 @@ ghost use Rattle.lz_tree.specs.Trees.{TranslationUnit};
 ghost use Rattle.lz_tree.specs.FirstFormScopes.{Program};
 ghost use Rattle.lz_parse.specs.Programs.{IsProgram, IsRefusedAt};
 ghost use Rattle.lz_cli.specs.declared.ending.Ending.{Ending};
-ghost use Rattle.lz_cli.specs.CommandLine.{IsFileName};
+ghost use Rattle.lz_cli.specs.CommandLine.{IsFileName, IsProofName};
 ghost use Rattle.lz_base.specs.Limits.{file_limit};
 ghost use Rattle.lz_cli.specs.Source.{HasNoTokens, IsFirstForm, IsOtherForm};
 ghost use Rattle.lz_cli.specs.Ending.{Call, IsLawful, NamesNoFile};
@@ -49,6 +49,9 @@ pub fn endings_are_exact()
         → proof_limit < length content → IsLawful call ending → IsEither Ending.ProofTooLong ending }
     // A file that the told files lack can't be read.
     ensures missing { (call : Call) (name : List ℕ) (ending : Ending) → IsFileName call.words name
+        → Lacks call.files name → IsLawful call ending → IsEither (Ending.ReadFault name) ending }
+    // So it is of a proof file.
+    ensures missing_proof { (call : Call) (name : List ℕ) (ending : Ending) → IsProofName call.words name
         → Lacks call.files name → IsLawful call ending → IsEither (Ending.ReadFault name) ending }
     // Words that name no file are not built.
     ensures no_file { (call : Call) (ending : Ending) → NamesNoFile call

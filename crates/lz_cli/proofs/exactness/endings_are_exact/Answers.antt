@@ -1,4 +1,4 @@
-use Rattle.lz_cli.proofs.ExactnessLemmas.{decided_ends, not_built_ends, not_a_token_ends, not_a_program_ends, too_long_ends, rechecked_ends, proof_too_long_ends, missing_ends, no_file_ends}
+use Rattle.lz_cli.proofs.ExactnessLemmas.{decided_ends, not_built_ends, not_a_token_ends, not_a_program_ends, too_long_ends, rechecked_ends, proof_too_long_ends, missing_ends, missing_proof_ends, no_file_ends}
 use Rattle.lz_cli.proofs.SourceLemmas.{one_refused}
 use Rattle.lz_cli.proofs.exactness.endings_are_exact.Goals as goal
 
@@ -28,6 +28,9 @@ returns-clause-proof_too_long c = proof_too_long_ends
 
 pub returns-clause-missing : goal.returns-clause-missing
 returns-clause-missing c = missing_ends
+
+pub returns-clause-missing_proof : goal.returns-clause-missing_proof
+returns-clause-missing_proof c = missing_proof_ends
 
 pub returns-clause-no_file : goal.returns-clause-no_file
 returns-clause-no_file c = no_file_ends
