@@ -12,13 +12,14 @@ use Rattle.lz_model.specs.declared.schedule.Step.{Step}
 use Rattle.lz_model.specs.Violation.{Violated}
 use Rattle.lz_model.proofs.ViolationLemmas.{rounds_of_run-follows}
 use Rattle.lz_cli.specs.declared.ending.Ending.{Ending}
-use Rattle.lz_cli.specs.declared.ending.Ending.TheVariants.{Successful, Failed, NotAToken, NotAProgram, NotBuilt, FileTooLong, ReadFault, OutOfMemory}
-use Rattle.lz_cli.specs.CommandLine.{IsFileName}
+use Rattle.lz_cli.specs.declared.ending.Ending.TheVariants.{Successful, Failed, NotAToken, NotAProgram, Recheck, NotBuilt, FileTooLong, ProofTooLong, ReadFault, OutOfMemory}
+use Rattle.lz_cli.specs.CommandLine.{IsFileName, IsProofName, IsNamed}
+use Rattle.lz_cli.specs.Recheck.{proof_limit, IsRechecked}
 use Rattle.lz_base.specs.Limits.{file_limit}
 use Rattle.lz_cli.specs.Limits.{defaults}
 use Rattle.lz_cli.specs.Source.{HasNoTokens, HasTree, IsFirstForm, IsOtherForm}
-use Rattle.lz_cli.specs.Ending.{Call, IsSource, IsVerdict, IsFailure, IsLawful, NamesNoFile}
-use Rattle.lz_cli.specs.Exactness.{IsToldFile, IsDecided, IsRefusal, IsEither}
+use Rattle.lz_cli.specs.Ending.{Call, IsSource, IsProofSource, IsVerdict, IsFailure, IsLawful, NamesNoFile}
+use Rattle.lz_cli.specs.Exactness.{IsToldFile, IsToldProof, IsDecided, IsRefusal, IsEither, IsAnswer}
 use Rattle.lz_cli.proofs.SourceLemmas.{OneTree, one_tokens, no_tokens, one_place, no_tree, one_meaning, no_other}
 
 first_of : List (List ℕ) → List ℕ
@@ -29,6 +30,27 @@ first_of (first ∷ rest) = first
 same_name : (words : List (List ℕ)) (a b : List ℕ) → IsFileName words a → IsFileName words b → a ≡ b
 unfolding first_of
 same_name words a b p q = ap first_of (sym p.0 ∙ q.0)
+
+-- the words name a file of one kind
+one_kind : (words : List (List ℕ)) (a b : List ℕ) → IsFileName words a → IsProofName words b → ⊥
+one_kind words a b p q = let e = ap (λ (w : List (List ℕ)). length w) (sym p.0 ∙ q.0) in omega arith
+
+third_of : List (List ℕ) → List ℕ
+third_of (first ∷ second ∷ third ∷ rest) = third
+third_of words = []
+
+same_proof : (words : List (List ℕ)) (a b : List ℕ) → IsProofName words a → IsProofName words b → a ≡ b
+unfolding third_of
+same_proof words a b p q = ap third_of (sym p.0 ∙ q.0)
+
+-- where a source file is named, the named one is it
+named_file : (words : List (List ℕ)) (a b : List ℕ) → IsFileName words a → IsNamed words b → IsFileName words b
+named_file words a b p (inl q) = q
+named_file words a b p (inr q) = absurd (one_kind words a b p q)
+
+named_proof : (words : List (List ℕ)) (a b : List ℕ) → IsProofName words a → IsNamed words b → IsProofName words b
+named_proof words a b p (inl q) = absurd (one_kind words b a q p)
+named_proof words a b p (inr q) = q
 
 content_in : Option (List ℕ) → List ℕ → List ℕ
 content_in (Some bytes) other = bytes
@@ -64,10 +86,10 @@ source_bytes call content bytes told source =
     (subst (λ (name : List ℕ). Holds call.files name bytes) (same_name call.words source.name told.name source.named told.named) source.held)
 
 -- the file that is told can be read
-pub no_fault : (call : Call) (content name : List ℕ) → IsToldFile call content → IsFileName call.words name → Rose call.faults_before call.faults_after ⊎ Lacks call.files name → ⊥
+pub no_fault : (call : Call) (content name : List ℕ) → IsToldFile call content → IsNamed call.words name → Rose call.faults_before call.faults_after ⊎ Lacks call.files name → ⊥
 no_fault call content name told named cause =
     ⊎_elim told.calm
-    (λ lacks. told_there call.files told.name content told.tells (subst (Lacks call.files) (same_name call.words name told.name named told.named) lacks))
+    (λ lacks. told_there call.files told.name content told.tells (subst (Lacks call.files) (same_name call.words name told.name (named_file call.words told.name name told.named named) told.named) lacks))
     cause
 
 pub long_told : (call : Call) (content name : List ℕ) → IsToldFile call content → IsFileName call.words name → IsLonger call.files name file_limit → file_limit < length content
@@ -86,11 +108,13 @@ told_verdict call content (NotAToken line place) told short lawful =
     subst (λ (b : List ℕ). IsVerdict defaults b (NotAToken line place)) (source_bytes call content lawful.0 told lawful.1) lawful.2
 told_verdict call content (NotAProgram line token) told short lawful =
     subst (λ (b : List ℕ). IsVerdict defaults b (NotAProgram line token)) (source_bytes call content lawful.0 told lawful.1) lawful.2
+told_verdict call content (Recheck answer) told short lawful = absurd (one_kind call.words told.name lawful.1.name told.named lawful.1.named)
 told_verdict call content (NotBuilt line) told short (inl lawful) =
     subst (λ (b : List ℕ). IsVerdict defaults b (NotBuilt line)) (source_bytes call content lawful.0 told lawful.1) lawful.2
-told_verdict call content (NotBuilt line) told short (inr lawful) = absurd (lawful.0 told.name told.named)
+told_verdict call content (NotBuilt line) told short (inr lawful) = absurd (lawful.0 told.name (inl told.named))
 told_verdict call content FileTooLong told short lawful =
     let long = long_told call content lawful.name told lawful.named lawful.longer in absurd (omega arith)
+told_verdict call content ProofTooLong told short lawful = absurd (one_kind call.words told.name lawful.name told.named lawful.named)
 told_verdict call content (ReadFault name) told short lawful = absurd (no_fault call content name told lawful.named lawful.cause)
 told_verdict call content OutOfMemory told short lawful = tt
 
@@ -106,8 +130,10 @@ decided_by one bytes p (Failed kind line schedule) form v =
     subst (λ (q : Program). Violated q defaults.unwind defaults.rounds) (one_meaning one bytes v.program p v.form form) (failure_violates bytes kind line schedule v)
 decided_by one bytes p (NotAToken line place) form v = no_tokens bytes form.of.tokens line place form.of.are v
 decided_by one bytes p (NotAProgram line token) form v = no_tree bytes form.tree line token form.of v
+decided_by one bytes p (Recheck answer) form v = v
 decided_by one bytes p (NotBuilt line) form v = no_other one bytes p form v.other_form
 decided_by one bytes p FileTooLong form v = v
+decided_by one bytes p ProofTooLong form v = v
 decided_by one bytes p (ReadFault name) form v = v
 decided_by one bytes p OutOfMemory form v = tt
 
@@ -120,8 +146,10 @@ not_built_by one bytes (Successful unwind rounds formula log) other v = no_other
 not_built_by one bytes (Failed kind line schedule) other v = no_other one bytes v.program v.form other
 not_built_by one bytes (NotAToken line place) other v = no_tokens bytes other.of.tokens line place other.of.are v
 not_built_by one bytes (NotAProgram line token) other v = no_tree bytes other.tree line token other.of v
+not_built_by one bytes (Recheck answer) other v = absurd v
 not_built_by one bytes (NotBuilt line) other v = ap NotBuilt (sym v.no_line)
 not_built_by one bytes FileTooLong other v = absurd v
+not_built_by one bytes ProofTooLong other v = absurd v
 not_built_by one bytes (ReadFault name) other v = absurd v
 not_built_by one bytes OutOfMemory other v = tt
 
@@ -139,8 +167,10 @@ not_a_token_by bytes line place (Successful unwind rounds formula log) none v = 
 not_a_token_by bytes line place (Failed kind l schedule) none v = no_tokens bytes v.form.of.tokens line place v.form.of.are none
 not_a_token_by bytes line place (NotAToken l p) none v = same_place bytes line place l p none v
 not_a_token_by bytes line place (NotAProgram l token) none v = no_tokens bytes v.tokens line place v.are none
+not_a_token_by bytes line place (Recheck answer) none v = absurd v
 not_a_token_by bytes line place (NotBuilt l) none v = no_tokens bytes v.other_form.of.tokens line place v.other_form.of.are none
 not_a_token_by bytes line place FileTooLong none v = absurd v
+not_a_token_by bytes line place ProofTooLong none v = absurd v
 not_a_token_by bytes line place (ReadFault name) none v = absurd v
 not_a_token_by bytes line place OutOfMemory none v = tt
 
@@ -157,8 +187,10 @@ not_a_program_by bytes tokens (Failed kind line schedule) are none v = none v.fo
 not_a_program_by bytes tokens (NotAToken line place) are none v = no_tokens bytes tokens line place are v
 not_a_program_by bytes tokens (NotAProgram line token) are none v =
     subst (λ (s : Tokens). IsRefusedAt s token line) (one_tokens bytes v.tokens tokens v.are are) v.refused
+not_a_program_by bytes tokens (Recheck answer) are none v = v
 not_a_program_by bytes tokens (NotBuilt line) are none v = none v.other_form.tree (tree_here bytes tokens v.other_form.tree are v.other_form.of)
 not_a_program_by bytes tokens FileTooLong are none v = v
+not_a_program_by bytes tokens ProofTooLong are none v = v
 not_a_program_by bytes tokens (ReadFault name) are none v = v
 not_a_program_by bytes tokens OutOfMemory are none v = tt
 
@@ -175,10 +207,12 @@ too_long_ends call content (NotAToken line place) told long lawful =
     let same = ap length (source_bytes call content lawful.0 told lawful.1) in let short = lawful.1.within_limit in absurd (omega arith)
 too_long_ends call content (NotAProgram line token) told long lawful =
     let same = ap length (source_bytes call content lawful.0 told lawful.1) in let short = lawful.1.within_limit in absurd (omega arith)
+too_long_ends call content (Recheck answer) told long lawful = absurd (one_kind call.words told.name lawful.1.name told.named lawful.1.named)
 too_long_ends call content (NotBuilt line) told long (inl lawful) =
     let same = ap length (source_bytes call content lawful.0 told lawful.1) in let short = lawful.1.within_limit in absurd (omega arith)
-too_long_ends call content (NotBuilt line) told long (inr lawful) = absurd (lawful.0 told.name told.named)
+too_long_ends call content (NotBuilt line) told long (inr lawful) = absurd (lawful.0 told.name (inl told.named))
 too_long_ends call content FileTooLong told long lawful = refl
+too_long_ends call content ProofTooLong told long lawful = absurd (one_kind call.words told.name lawful.name told.named lawful.named)
 too_long_ends call content (ReadFault name) told long lawful = absurd (no_fault call content name told lawful.named lawful.cause)
 too_long_ends call content OutOfMemory told long lawful = tt
 
@@ -191,19 +225,85 @@ missing_ends call name (Successful unwind rounds formula log) named lacks lawful
 missing_ends call name (Failed kind line schedule) named lacks lawful = absurd (not_lacking call name lawful.0 named lacks lawful.1)
 missing_ends call name (NotAToken line place) named lacks lawful = absurd (not_lacking call name lawful.0 named lacks lawful.1)
 missing_ends call name (NotAProgram line token) named lacks lawful = absurd (not_lacking call name lawful.0 named lacks lawful.1)
+missing_ends call name (Recheck answer) named lacks lawful = absurd (one_kind call.words name lawful.1.name named lawful.1.named)
 missing_ends call name (NotBuilt line) named lacks (inl lawful) = absurd (not_lacking call name lawful.0 named lacks lawful.1)
-missing_ends call name (NotBuilt line) named lacks (inr lawful) = absurd (lawful.0 name named)
+missing_ends call name (NotBuilt line) named lacks (inr lawful) = absurd (lawful.0 name (inl named))
 missing_ends call name FileTooLong named lacks lawful =
     absurd (lacking_longer call.files name file_limit lacks (subst (λ (n : List ℕ). IsLonger call.files n file_limit) (same_name call.words lawful.name name lawful.named named) lawful.longer))
-missing_ends call name (ReadFault other) named lacks lawful = ap ReadFault (same_name call.words name other named lawful.named)
+missing_ends call name ProofTooLong named lacks lawful = absurd (one_kind call.words name lawful.name named lawful.named)
+missing_ends call name (ReadFault other) named lacks lawful = ap ReadFault (same_name call.words name other named (named_file call.words name other named lawful.named))
 missing_ends call name OutOfMemory named lacks lawful = tt
 
 pub no_file_ends : (call : Call) (ending : Ending) → NamesNoFile call → IsLawful call ending → IsEither (NotBuilt 0) ending
-no_file_ends call (Successful unwind rounds formula log) none lawful = absurd (none lawful.1.name lawful.1.named)
-no_file_ends call (Failed kind line schedule) none lawful = absurd (none lawful.1.name lawful.1.named)
-no_file_ends call (NotAToken line place) none lawful = absurd (none lawful.1.name lawful.1.named)
-no_file_ends call (NotAProgram line token) none lawful = absurd (none lawful.1.name lawful.1.named)
+no_file_ends call (Successful unwind rounds formula log) none lawful = absurd (none lawful.1.name (inl lawful.1.named))
+no_file_ends call (Failed kind line schedule) none lawful = absurd (none lawful.1.name (inl lawful.1.named))
+no_file_ends call (NotAToken line place) none lawful = absurd (none lawful.1.name (inl lawful.1.named))
+no_file_ends call (NotAProgram line token) none lawful = absurd (none lawful.1.name (inl lawful.1.named))
+no_file_ends call (Recheck answer) none lawful = absurd (none lawful.1.name (inr lawful.1.named))
 no_file_ends call (NotBuilt line) none lawful = ap NotBuilt (sym (⊎_elim (λ from. from.2.no_line) (λ words. words.1) lawful))
-no_file_ends call FileTooLong none lawful = absurd (none lawful.name lawful.named)
+no_file_ends call FileTooLong none lawful = absurd (none lawful.name (inl lawful.named))
+no_file_ends call ProofTooLong none lawful = absurd (none lawful.name (inr lawful.named))
 no_file_ends call (ReadFault name) none lawful = absurd (none name lawful.named)
 no_file_ends call OutOfMemory none lawful = tt
+
+-- ---- proof files
+
+proof_bytes : (call : Call) (content bytes : List ℕ) → IsToldProof call content → IsProofSource call bytes → bytes ≡ content
+proof_bytes call content bytes told source =
+    told_bytes call.files told.name bytes content told.tells
+    (subst (λ (name : List ℕ). Holds call.files name bytes) (same_proof call.words source.name told.name source.named told.named) source.held)
+
+no_proof_fault : (call : Call) (content name : List ℕ) → IsToldProof call content → IsNamed call.words name → Rose call.faults_before call.faults_after ⊎ Lacks call.files name → ⊥
+no_proof_fault call content name told named cause =
+    ⊎_elim told.calm
+    (λ lacks. told_there call.files told.name content told.tells (subst (Lacks call.files) (same_proof call.words name told.name (named_proof call.words told.name name told.named named) told.named) lacks))
+    cause
+
+proof_long_told : (call : Call) (content name : List ℕ) → IsToldProof call content → IsProofName call.words name → IsLonger call.files name proof_limit → proof_limit < length content
+proof_long_told call content name told named longer =
+    told_longer call.files told.name content proof_limit told.tells (subst (λ (n : List ℕ). IsLonger call.files n proof_limit) (same_proof call.words name told.name named told.named) longer)
+
+pub rechecked_ends : (call : Call) (content : List ℕ) (ending : Ending) → IsToldProof call content → length content ≤ proof_limit → IsLawful call ending → IsAnswer content ending
+rechecked_ends call content (Successful unwind rounds formula log) told short lawful = one_kind call.words lawful.1.name told.name lawful.1.named told.named
+rechecked_ends call content (Failed kind line schedule) told short lawful = one_kind call.words lawful.1.name told.name lawful.1.named told.named
+rechecked_ends call content (NotAToken line place) told short lawful = one_kind call.words lawful.1.name told.name lawful.1.named told.named
+rechecked_ends call content (NotAProgram line token) told short lawful = one_kind call.words lawful.1.name told.name lawful.1.named told.named
+rechecked_ends call content (Recheck answer) told short lawful = subst (λ (b : List ℕ). IsRechecked b answer) (proof_bytes call content lawful.0 told lawful.1) lawful.2
+rechecked_ends call content (NotBuilt line) told short (inl lawful) = one_kind call.words lawful.1.name told.name lawful.1.named told.named
+rechecked_ends call content (NotBuilt line) told short (inr lawful) = lawful.0 told.name (inr told.named)
+rechecked_ends call content FileTooLong told short lawful = one_kind call.words lawful.name told.name lawful.named told.named
+rechecked_ends call content ProofTooLong told short lawful = let long = proof_long_told call content lawful.name told lawful.named lawful.longer in absurd (omega arith)
+rechecked_ends call content (ReadFault name) told short lawful = no_proof_fault call content name told lawful.named lawful.cause
+rechecked_ends call content OutOfMemory told short lawful = tt
+
+pub proof_too_long_ends : (call : Call) (content : List ℕ) (ending : Ending) → IsToldProof call content → proof_limit < length content → IsLawful call ending → IsEither ProofTooLong ending
+proof_too_long_ends call content (Successful unwind rounds formula log) told long lawful = absurd (one_kind call.words lawful.1.name told.name lawful.1.named told.named)
+proof_too_long_ends call content (Failed kind line schedule) told long lawful = absurd (one_kind call.words lawful.1.name told.name lawful.1.named told.named)
+proof_too_long_ends call content (NotAToken line place) told long lawful = absurd (one_kind call.words lawful.1.name told.name lawful.1.named told.named)
+proof_too_long_ends call content (NotAProgram line token) told long lawful = absurd (one_kind call.words lawful.1.name told.name lawful.1.named told.named)
+proof_too_long_ends call content (Recheck answer) told long lawful =
+    let same = ap length (proof_bytes call content lawful.0 told lawful.1) in let short = lawful.1.within_limit in absurd (omega arith)
+proof_too_long_ends call content (NotBuilt line) told long (inl lawful) = absurd (one_kind call.words lawful.1.name told.name lawful.1.named told.named)
+proof_too_long_ends call content (NotBuilt line) told long (inr lawful) = absurd (lawful.0 told.name (inr told.named))
+proof_too_long_ends call content FileTooLong told long lawful = absurd (one_kind call.words lawful.name told.name lawful.named told.named)
+proof_too_long_ends call content ProofTooLong told long lawful = refl
+proof_too_long_ends call content (ReadFault name) told long lawful = absurd (no_proof_fault call content name told lawful.named lawful.cause)
+proof_too_long_ends call content OutOfMemory told long lawful = tt
+
+not_lacking_proof : (call : Call) (name bytes : List ℕ) → IsProofName call.words name → Lacks call.files name → IsProofSource call bytes → ⊥
+not_lacking_proof call name bytes named lacks source =
+    lacking_holds call.files name bytes lacks (subst (λ (n : List ℕ). Holds call.files n bytes) (same_proof call.words source.name name source.named named) source.held)
+
+pub missing_proof_ends : (call : Call) (name : List ℕ) (ending : Ending) → IsProofName call.words name → Lacks call.files name → IsLawful call ending → IsEither (ReadFault name) ending
+missing_proof_ends call name (Successful unwind rounds formula log) named lacks lawful = absurd (one_kind call.words lawful.1.name name lawful.1.named named)
+missing_proof_ends call name (Failed kind line schedule) named lacks lawful = absurd (one_kind call.words lawful.1.name name lawful.1.named named)
+missing_proof_ends call name (NotAToken line place) named lacks lawful = absurd (one_kind call.words lawful.1.name name lawful.1.named named)
+missing_proof_ends call name (NotAProgram line token) named lacks lawful = absurd (one_kind call.words lawful.1.name name lawful.1.named named)
+missing_proof_ends call name (Recheck answer) named lacks lawful = absurd (not_lacking_proof call name lawful.0 named lacks lawful.1)
+missing_proof_ends call name (NotBuilt line) named lacks (inl lawful) = absurd (one_kind call.words lawful.1.name name lawful.1.named named)
+missing_proof_ends call name (NotBuilt line) named lacks (inr lawful) = absurd (lawful.0 name (inr named))
+missing_proof_ends call name FileTooLong named lacks lawful = absurd (one_kind call.words lawful.name name lawful.named named)
+missing_proof_ends call name ProofTooLong named lacks lawful =
+    absurd (lacking_longer call.files name proof_limit lacks (subst (λ (n : List ℕ). IsLonger call.files n proof_limit) (same_proof call.words lawful.name name lawful.named named) lawful.longer))
+missing_proof_ends call name (ReadFault other) named lacks lawful = ap ReadFault (same_proof call.words name other named (named_proof call.words name other named lawful.named))
+missing_proof_ends call name OutOfMemory named lacks lawful = tt

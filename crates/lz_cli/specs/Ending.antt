@@ -13,8 +13,9 @@ use Rattle.lz_cnf.specs.Models.{IsFormula, HasModel}
 use Rattle.lz_log.specs.declared.log.LogStep.{LogStep}
 use Rattle.lz_log.specs.Refutation.{Refutes}
 use Rattle.lz_cli.specs.declared.ending.Ending.{Ending}
-use Rattle.lz_cli.specs.declared.ending.Ending.TheVariants.{Successful, Failed, NotAToken, NotAProgram, NotBuilt, FileTooLong, ReadFault, OutOfMemory}
-use Rattle.lz_cli.specs.CommandLine.{IsFileName}
+use Rattle.lz_cli.specs.declared.ending.Ending.TheVariants.{Successful, Failed, NotAToken, NotAProgram, Recheck, NotBuilt, FileTooLong, ProofTooLong, ReadFault, OutOfMemory}
+use Rattle.lz_cli.specs.CommandLine.{IsFileName, IsProofName, IsNamed}
+use Rattle.lz_cli.specs.Recheck.{proof_limit, IsRechecked}
 use Rattle.lz_cli.specs.Source.{HasNoTokens, HasNoTree, IsFirstForm, IsOtherForm}
 use Rattle.lz_base.specs.Limits.{file_limit}
 use Rattle.lz_cli.specs.Limits.{Bounds, defaults}
@@ -58,8 +59,10 @@ IsVerdict bounds bytes (Successful unwind rounds formula log) = IsSuccess bounds
 IsVerdict bounds bytes (Failed kind line schedule) = IsFailure bounds bytes kind line schedule
 IsVerdict bounds bytes (NotAToken line place) = HasNoTokens bytes line place
 IsVerdict bounds bytes (NotAProgram line token) = HasNoTree bytes line token
+IsVerdict bounds bytes (Recheck answer) = ⊥
 IsVerdict bounds bytes (NotBuilt line) = IsNotBuilt bytes line
 IsVerdict bounds bytes FileTooLong = ⊥
+IsVerdict bounds bytes ProofTooLong = ⊥
 IsVerdict bounds bytes (ReadFault name) = ⊥
 IsVerdict bounds bytes OutOfMemory = ⊤
 
@@ -88,9 +91,22 @@ pub record IsSource (call : Call) (bytes : List ℕ) : Type 0 where
 abbrev pub IsFromFile : Call → Ending → Type 0
 IsFromFile call ending = (bytes : List ℕ) × IsSource call bytes × IsVerdict defaults bytes ending
 
--- the words name no file: they are none, or several, or one that begins with `-`
+-- the words name a proof file, it holds these bytes, where that is told, and they are within the limit
+pub record IsProofSource (call : Call) (bytes : List ℕ) : Type 0 where
+  pub name : List ℕ
+  pub named : IsProofName call.words name
+  pub held : Holds call.files name bytes
+  pub within_limit : length bytes ≤ proof_limit
+
+-- the proof file is longer than the limit, where that is told
+pub record IsProofTooLong (call : Call) : Type 0 where
+  pub name : List ℕ
+  pub named : IsProofName call.words name
+  pub longer : IsLonger call.files name proof_limit
+
+-- the words name no file, of either kind
 abbrev pub NamesNoFile : Call → Type 0
-NamesNoFile call = (name : List ℕ) → IsFileName call.words name → ⊥
+NamesNoFile call = (name : List ℕ) → IsNamed call.words name → ⊥
 
 -- the file is longer than the limit, where that is told
 pub record IsFileTooLong (call : Call) : Type 0 where
@@ -100,7 +116,7 @@ pub record IsFileTooLong (call : Call) : Type 0 where
 
 -- the told files lack the named file, or the count of failed reads rose in this call or stands at its end
 pub record IsReadFault (call : Call) (name : List ℕ) : Type 0 where
-  pub named : IsFileName call.words name
+  pub named : IsNamed call.words name
   pub cause : Rose call.faults_before call.faults_after ⊎ Lacks call.files name
 
 -- the ending is lawful in the call; want of memory always is
@@ -109,7 +125,9 @@ IsLawful call (Successful unwind rounds formula log) = IsFromFile call (Successf
 IsLawful call (Failed kind line schedule) = IsFromFile call (Failed kind line schedule)
 IsLawful call (NotAToken line place) = IsFromFile call (NotAToken line place)
 IsLawful call (NotAProgram line token) = IsFromFile call (NotAProgram line token)
+IsLawful call (Recheck answer) = (bytes : List ℕ) × IsProofSource call bytes × IsRechecked bytes answer
 IsLawful call (NotBuilt line) = IsFromFile call (NotBuilt line) ⊎ (NamesNoFile call × (line ≡ 0))
 IsLawful call FileTooLong = IsFileTooLong call
+IsLawful call ProofTooLong = IsProofTooLong call
 IsLawful call (ReadFault name) = IsReadFault call name
 IsLawful call OutOfMemory = ⊤

@@ -8,8 +8,9 @@ use Rattle.lz_tree.specs.FirstFormScopes.{Program}
 use Rattle.lz_parse.specs.Programs.{IsRefusedAt}
 use Rattle.lz_model.specs.Violation.{Violated}
 use Rattle.lz_cli.specs.declared.ending.Ending.{Ending}
-use Rattle.lz_cli.specs.declared.ending.Ending.TheVariants.{Successful, Failed, NotAToken, NotAProgram, NotBuilt, FileTooLong, ReadFault, OutOfMemory}
-use Rattle.lz_cli.specs.CommandLine.{IsFileName}
+use Rattle.lz_cli.specs.declared.ending.Ending.TheVariants.{Successful, Failed, NotAToken, NotAProgram, Recheck, NotBuilt, FileTooLong, ProofTooLong, ReadFault, OutOfMemory}
+use Rattle.lz_cli.specs.CommandLine.{IsFileName, IsProofName}
+use Rattle.lz_cli.specs.Recheck.{IsRechecked}
 use Rattle.lz_cli.specs.Limits.{defaults}
 use Rattle.lz_cli.specs.Ending.{Call}
 
@@ -26,8 +27,10 @@ IsDecided p (Successful unwind rounds formula log) = Violated p defaults.unwind 
 IsDecided p (Failed kind line schedule) = Violated p defaults.unwind defaults.rounds
 IsDecided p (NotAToken line place) = ⊥
 IsDecided p (NotAProgram line token) = ⊥
+IsDecided p (Recheck answer) = ⊥
 IsDecided p (NotBuilt line) = ⊥
 IsDecided p FileTooLong = ⊥
+IsDecided p ProofTooLong = ⊥
 IsDecided p (ReadFault name) = ⊥
 IsDecided p OutOfMemory = ⊤
 
@@ -43,7 +46,22 @@ IsEither expected (Successful unwind rounds formula log) = expected ≡ Successf
 IsEither expected (Failed kind line schedule) = expected ≡ Failed kind line schedule
 IsEither expected (NotAToken line place) = expected ≡ NotAToken line place
 IsEither expected (NotAProgram line token) = expected ≡ NotAProgram line token
+IsEither expected (Recheck answer) = expected ≡ Recheck answer
 IsEither expected (NotBuilt line) = expected ≡ NotBuilt line
 IsEither expected FileTooLong = expected ≡ FileTooLong
+IsEither expected ProofTooLong = expected ≡ ProofTooLong
 IsEither expected (ReadFault name) = expected ≡ ReadFault name
 IsEither expected OutOfMemory = ⊤
+
+-- the words name a proof file that the folder tells, with this content, and no read failed
+pub record IsToldProof (call : Call) (content : List ℕ) : Type 0 where
+  pub name : List ℕ
+  pub named : IsProofName call.words name
+  pub tells : Tells call.files name content
+  pub calm : Rose call.faults_before call.faults_after → ⊥
+
+-- the ending is the right answer to these bytes, or that memory ran out
+abbrev pub IsAnswer : List ℕ → Ending → Type 0
+IsAnswer bytes (Recheck answer) = IsRechecked bytes answer
+IsAnswer bytes OutOfMemory = ⊤
+IsAnswer bytes _ = ⊥

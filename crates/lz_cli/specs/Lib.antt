@@ -7,3 +7,4 @@ pub mod Command
 pub mod Exactness
 pub mod Refutation
 pub mod Decide
+pub mod Recheck

@@ -1,7 +1,7 @@
 //! The top call.
 
 ghost use Rattle.std.specs.Prelude.{◌≡◌, ◌≤◌, ℕ, List, length, IfOk};
-ghost use Rattle.lz_cli.specs.CommandLine.{IsFileName};
+ghost use Rattle.lz_cli.specs.CommandLine.{IsFileName, IsNamed, IsProofName};
 ghost use Rattle.lz_cli.specs.Report.{report, status_of, IsPrintable};
 ghost use Rattle.lz_base.specs.Limits.{file_limit};
 ghost use Rattle.lz_cli.specs.Limits.{defaults};
@@ -12,11 +12,12 @@ ghost use Rattle.lz_tree.specs.FirstFormScopes.{program, IsWellFormed};
 ghost use Rattle.lz_cli.specs.Source.{HasTree, IsFirstForm};
 ghost use Rattle.lz_cli.specs.Command.{output_of, IsDeliveredOrCutOff, Answers};
 
-use crate::command_line::{Words, file_name};
+use crate::command_line::{Words, file_name, proof_name};
 use crate::decide::{Decided, decide};
 use crate::ending::Ending;
 use crate::evidence::Evidence;
 use crate::limits::{DEFAULT_ROUNDS, DEFAULT_UNWIND};
+use crate::recheck::{PROOF_LIMIT, recheck};
 use crate::refutation::refutation;
 use crate::report::{MEMORY_REPORT, print, status};
 use lz_base::{FILE_LIMIT, Memory, Name};
@@ -31,7 +32,7 @@ use std::alloc::Global;
 /// How a call ended: the status that the program ends with, and what shows that the verdict is right.
 #[derive(Debug, Drop)]
 pub struct Ended {
-    /// 0, 1, 4, 5, 6, 8 or 12, as the report says, or 7 where the report could not be written whole.
+    /// 0, 1, 4, 5, 6, 8, 10, 11 or 12, as the report says, or 7 where the report could not be written whole.
     pub status: u8,
     pub evidence: Evidence,
 }
@@ -39,7 +40,7 @@ pub struct Ended {
 /// The status of a call whose report could not be written whole.
 const CUT_OFF: u8 = 7;
 
-/// Reads the file that the words name, decides its program and writes the report, which is made whole
+/// Reads the file that the words name, decides its program or rechecks its log, and writes the report, which is made whole
 /// before any of it is written. No told file changes.
 pub fn run<F: Folder, O: Sink>(alloc: Global, words: &Words, folder: &mut F, out: &mut O) -> Ended
     // Some lawful ending is told; where the sink failed, some front of its report.
@@ -48,7 +49,7 @@ pub fn run<F: Folder, O: Sink>(alloc: Global, words: &Words, folder: &mut F, out
         (output_of (O.written out.old) (O.written out.new) (O.faults out.old) (O.faults out.new))
         result.status result.evidence }
     // Where the words name no file, nothing is read.
-    ensures not_read { ((name : List ℕ) → IsFileName words.now name → ⊥) → folder.new ≡ folder.old }
+    ensures not_read { ((name : List ℕ) → IsNamed words.now name → ⊥) → folder.new ≡ folder.old }
     ensures keeps_files { F.files folder.new ≡ F.files folder.old }
     ensures read_faults { F.read_faults folder.old ≤ F.read_faults folder.new }
     ensures same_writes { F.write_faults folder.new ≡ F.write_faults folder.old }
@@ -66,14 +67,54 @@ fn conclude<F: Folder>(alloc: Global, words: &Words, folder: &mut F) -> Result<E
     ensures lawful { IfOk result (IsLawful
         (call_of words.now (F.files folder.old) (F.read_faults folder.old) (F.read_faults folder.new))) }
     ensures printable { IfOk result IsPrintable }
-    ensures not_read { ((name : List ℕ) → IsFileName words.now name → ⊥) → folder.new ≡ folder.old }
+    ensures not_read { ((name : List ℕ) → IsNamed words.now name → ⊥) → folder.new ≡ folder.old }
     ensures keeps_files { F.files folder.new ≡ F.files folder.old }
     ensures read_faults { F.read_faults folder.old ≤ F.read_faults folder.new }
     ensures same_writes { F.write_faults folder.new ≡ F.write_faults folder.old }
 {
     match file_name(words) {
         Some(name) => conclude_file(alloc, name, folder),
+        None => conclude_other(alloc, words, folder),
+    }
+}
+
+/// What a call comes to whose words name no source file.
+fn conclude_other<F: Folder>(alloc: Global, words: &Words, folder: &mut F) -> Result<Ending, Memory>
+    requires { (name : List ℕ) → IsFileName words.now name → ⊥ }
+    ensures lawful { IfOk result (IsLawful
+        (call_of words.now (F.files folder.old) (F.read_faults folder.old) (F.read_faults folder.new))) }
+    ensures printable { IfOk result IsPrintable }
+    ensures not_read { ((name : List ℕ) → IsNamed words.now name → ⊥) → folder.new ≡ folder.old }
+    ensures keeps_files { F.files folder.new ≡ F.files folder.old }
+    ensures read_faults { F.read_faults folder.old ≤ F.read_faults folder.new }
+    ensures same_writes { F.write_faults folder.new ≡ F.write_faults folder.old }
+{
+    match proof_name(words) {
+        Some(name) => conclude_proof(alloc, name, folder),
         None => Ok(Ending::NotBuilt { line: 0 }),
+    }
+}
+
+/// What the proof file of this name comes to.
+fn conclude_proof<F: Folder>(alloc: Global, name: &Name, folder: &mut F) -> Result<Ending, Memory>
+    ensures lawful { IfOk result (λ ending. (words : List (List ℕ)) → IsProofName words name.now → IsLawful
+        (call_of words (F.files folder.old) (F.read_faults folder.old) (F.read_faults folder.new)) ending) }
+    ensures printable { IfOk result IsPrintable }
+    ensures keeps_files { F.files folder.new ≡ F.files folder.old }
+    ensures read_faults { F.read_faults folder.old ≤ F.read_faults folder.new }
+    ensures same_writes { F.write_faults folder.new ≡ F.write_faults folder.old }
+{
+    match read_all(alloc, folder, name.text(), PROOF_LIMIT) {
+        Ok(bytes) => {
+            let answer = recheck(alloc, bytes.items())?;
+            Ok(Ending::Recheck { answer })
+        }
+        Err(ReadError::Fault) => {
+            let name = Name::new(alloc, name.text())?;
+            Ok(Ending::ReadFault { name })
+        }
+        Err(ReadError::TooLong) => Ok(Ending::ProofTooLong),
+        Err(ReadError::Memory) => Err(Memory),
     }
 }
 

@@ -1,7 +1,7 @@
 //! The words of a command line.
 
 ghost use Rattle.std.specs.Prelude.{◌≡◌, ℕ, List, IfSome, IfNone};
-ghost use Rattle.lz_cli.specs.CommandLine.{begins_with_dash, IsFileName};
+ghost use Rattle.lz_cli.specs.CommandLine.{begins_with_dash, IsFileName, IsProofName};
 
 use lz_base::{Name, Sequence};
 
@@ -19,6 +19,23 @@ pub fn file_name(words: &Words) -> Option<&Name>
                 None
             } else {
                 Some(name)
+            }
+        }
+        _ => None,
+    }
+}
+
+/// The name of the proof file, where the words are `--mode`, `recheck` and one that does not begin with `-`.
+pub fn proof_name(words: &Words) -> Option<&Name>
+    ensures named { IfSome result (λ name. IsProofName words.now name.now) }
+    ensures none { IfNone result ((name : List ℕ) → IsProofName words.now name → ⊥) }
+{
+    match words.items() {
+        [option, mode, name] => {
+            if option.text() == "--mode" && mode.text() == "recheck" && !is_option(name.text()) {
+                Some(name)
+            } else {
+                None
             }
         }
         _ => None,

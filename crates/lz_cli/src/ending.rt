@@ -1,4 +1,5 @@
 use crate::evidence::Evidence;
+use crate::recheck::Rechecked;
 use lz_base::{BreakKind, Name};
 use lz_cnf::Cnf;
 use lz_log::Log;
@@ -31,12 +32,18 @@ pub enum Ending {
         line: u32,
         token: u32,
     },
+    /// A proof file was rechecked.
+    Recheck {
+        answer: Rechecked,
+    },
     /// The file, or the words, have a form that is not built.
     NotBuilt {
         line: u32,
     },
     /// The file is longer than the limit.
     FileTooLong,
+    /// The proof file is longer than the limit.
+    ProofTooLong,
     /// The file of this name can't be read.
     ReadFault {
         name: Name,
@@ -67,8 +74,10 @@ impl Ending {
             } => Evidence::Nothing,
             Ending::NotAToken { line: _, place: _ } => Evidence::Nothing,
             Ending::NotAProgram { line: _, token: _ } => Evidence::Nothing,
+            Ending::Recheck { answer: _ } => Evidence::Nothing,
             Ending::NotBuilt { line: _ } => Evidence::Nothing,
             Ending::FileTooLong => Evidence::Nothing,
+            Ending::ProofTooLong => Evidence::Nothing,
             Ending::ReadFault { name: _ } => Evidence::Nothing,
             Ending::OutOfMemory => Evidence::Nothing,
         }

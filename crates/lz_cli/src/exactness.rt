@@ -9,11 +9,12 @@ ghost use Rattle.lz_tree.specs.Trees.{TranslationUnit};
 ghost use Rattle.lz_tree.specs.FirstFormScopes.{Program};
 ghost use Rattle.lz_parse.specs.Programs.{IsProgram, IsRefusedAt};
 ghost use Rattle.lz_cli.specs.declared.ending.Ending.{Ending};
-ghost use Rattle.lz_cli.specs.CommandLine.{IsFileName};
+ghost use Rattle.lz_cli.specs.CommandLine.{IsFileName, IsProofName};
 ghost use Rattle.lz_base.specs.Limits.{file_limit};
 ghost use Rattle.lz_cli.specs.Source.{HasNoTokens, IsFirstForm, IsOtherForm};
 ghost use Rattle.lz_cli.specs.Ending.{Call, IsLawful, NamesNoFile};
-ghost use Rattle.lz_cli.specs.Exactness.{IsToldFile, IsDecided, IsRefusal, IsEither};
+ghost use Rattle.lz_cli.specs.Recheck.{proof_limit};
+ghost use Rattle.lz_cli.specs.Exactness.{IsToldFile, IsToldProof, IsAnswer, IsDecided, IsRefusal, IsEither};
 
 use lz_parse::one_program;
 
@@ -40,8 +41,17 @@ pub fn endings_are_exact()
     // A longer file is too long.
     ensures too_long { (call : Call) (content : List ℕ) (ending : Ending) → IsToldFile call content
         → file_limit < length content → IsLawful call ending → IsEither Ending.FileTooLong ending }
+    // A proof file within the limit is rechecked, and the answer is right.
+    ensures rechecked { (call : Call) (content : List ℕ) (ending : Ending) → IsToldProof call content
+        → length content ≤ proof_limit → IsLawful call ending → IsAnswer content ending }
+    // A longer proof file is too long.
+    ensures proof_too_long { (call : Call) (content : List ℕ) (ending : Ending) → IsToldProof call content
+        → proof_limit < length content → IsLawful call ending → IsEither Ending.ProofTooLong ending }
     // A file that the told files lack can't be read.
     ensures missing { (call : Call) (name : List ℕ) (ending : Ending) → IsFileName call.words name
+        → Lacks call.files name → IsLawful call ending → IsEither (Ending.ReadFault name) ending }
+    // So it is of a proof file.
+    ensures missing_proof { (call : Call) (name : List ℕ) (ending : Ending) → IsProofName call.words name
         → Lacks call.files name → IsLawful call ending → IsEither (Ending.ReadFault name) ending }
     // Words that name no file are not built.
     ensures no_file { (call : Call) (ending : Ending) → NamesNoFile call

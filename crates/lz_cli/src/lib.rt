@@ -8,6 +8,7 @@ mod ending;
 mod evidence;
 mod exactness;
 mod limits;
+mod recheck;
 mod refutation;
 mod report;
 #[cfg(test)]
@@ -18,3 +19,4 @@ pub use command_line::Words;
 pub use ending::Ending;
 pub use evidence::Evidence;
 pub use exactness::endings_are_exact;
+pub use recheck::Rechecked;

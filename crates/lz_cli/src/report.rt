@@ -1,11 +1,15 @@
 //! The text of a report.
 
 ghost use Rattle.std.specs.Prelude.{◌≡◌, ◌<◌, ◌^◌, ◌++◌, codes, OnOk, IfOk, List};
+ghost use Rattle.std.specs.Fmt.{decimal};
 ghost use Rattle.std.specs.List.{flat_map};
 ghost use Rattle.lz_model.specs.Rounds.{rounds_of, threads_of};
+ghost use Rattle.lz_cli.specs.Recheck as recheck;
+ghost use Rattle.lz_cli.specs.Recheck.{recheck_line};
 ghost use Rattle.lz_cli.specs.Report.{report, success_line, kind_word, step_line, status_of, IsPrintable};
 
 use crate::ending::Ending;
+use crate::recheck::{PROOF_LIMIT, Rechecked};
 use lz_base::{BreakKind, Bytes, FILE_LIMIT, Memory, Name};
 use lz_model::{Schedule, Step, rounds};
 use std::alloc::Global;
@@ -29,8 +33,10 @@ pub fn print(alloc: Global, ending: &Ending) -> Result<Bytes, Memory>
         } => failed(alloc, *kind, *line, schedule),
         Ending::NotAToken { line, place } => not_a_token(alloc, *line, *place),
         Ending::NotAProgram { line, token } => not_a_program(alloc, *line, *token),
+        Ending::Recheck { answer } => rechecked(alloc, *answer),
         Ending::NotBuilt { line } => not_built(alloc, *line),
         Ending::FileTooLong => file_too_long(alloc),
+        Ending::ProofTooLong => proof_too_long(alloc),
         Ending::ReadFault { name } => read_fault(alloc, name),
         Ending::OutOfMemory => out_of_memory(alloc),
     }
@@ -108,6 +114,49 @@ fn file_too_long(alloc: Global) -> Result<Bytes, Memory>
     Ok(text)
 }
 
+fn proof_too_long(alloc: Global) -> Result<Bytes, Memory>
+    ensures { IfOk result (λ text. text ≡ report Ending.ProofTooLong) }
+{
+    let mut text = Bytes::new(alloc);
+    text.append(b"LIMIT proof over ")?;
+    text.append_number(PROOF_LIMIT)?;
+    text.append(b" bytes\n")?;
+    Ok(text)
+}
+
+fn rechecked(alloc: Global, answer: Rechecked) -> Result<Bytes, Memory>
+    ensures { IfOk result (λ text. text ≡ recheck_line answer) }
+{
+    match answer {
+        Rechecked::Refuted { clauses, steps } => refuted(alloc, clauses, steps),
+        Rechecked::BadLine { line } => one_number(alloc, b"TEXT line ", u64::from(line)),
+        Rechecked::BadStep { index } => one_number(alloc, b"BADSTEP index ", index),
+    }
+}
+
+fn refuted(alloc: Global, clauses: u64, steps: u64) -> Result<Bytes, Memory>
+    ensures { IfOk result (λ text. text ≡ codes "REFUTED formula " ++ decimal clauses ++ codes " log " ++ decimal steps ++ codes "\n") }
+{
+    let mut text = Bytes::new(alloc);
+    text.append(b"REFUTED formula ")?;
+    text.append_number(clauses)?;
+    text.append(b" log ")?;
+    text.append_number(steps)?;
+    text.append(b"\n")?;
+    Ok(text)
+}
+
+/// A line of words and a number.
+fn one_number(alloc: Global, words: &[u8], number: u64) -> Result<Bytes, Memory>
+    ensures { IfOk result (λ text. text ≡ words.now ++ decimal number ++ codes "\n") }
+{
+    let mut text = Bytes::new(alloc);
+    text.append(words)?;
+    text.append_number(number)?;
+    text.append(b"\n")?;
+    Ok(text)
+}
+
 fn read_fault(alloc: Global, name: &Name) -> Result<Bytes, Memory>
     ensures { IfOk result (λ text. text ≡ report (Ending.ReadFault name.now)) }
 {
@@ -165,6 +214,20 @@ fn append_steps(text: &mut Bytes, schedule: &Schedule) -> Result<(), Memory>
     Ok(())
 }
 
+/// The status of a recheck's answer.
+fn recheck_status(answer: Rechecked) -> u8
+    ensures { result ≡ recheck.recheck_status answer }
+{
+    match answer {
+        Rechecked::Refuted {
+            clauses: _,
+            steps: _,
+        } => 0,
+        Rechecked::BadLine { line: _ } => 10,
+        Rechecked::BadStep { index: _ } => 11,
+    }
+}
+
 /// The status that the command ends with.
 pub fn status(ending: &Ending) -> u8
     ensures { result ≡ status_of ending.now }
@@ -183,8 +246,10 @@ pub fn status(ending: &Ending) -> u8
         } => 1,
         Ending::NotAToken { line: _, place: _ } => 4,
         Ending::NotAProgram { line: _, token: _ } => 4,
+        Ending::Recheck { answer } => recheck_status(*answer),
         Ending::NotBuilt { line: _ } => 12,
         Ending::FileTooLong => 5,
+        Ending::ProofTooLong => 5,
         Ending::ReadFault { name: _ } => 6,
         Ending::OutOfMemory => 8,
     }

@@ -367,7 +367,7 @@ fn reports_of_files(rt: HostRuntime) -> Result<(), Fail> {
 /// Words that name a file and words that don't: the report, the status, and the reason of the row.
 #[test]
 fn reports_of_words(rt: HostRuntime) -> Result<(), Fail> {
-    let table: [(&[&str], &str, u8, &str); 6] = [
+    let table: [(&[&str], &str, u8, &str); 8] = [
         (&["no.c"], "READ no.c\n", 6, "no file of the name"),
         (
             &[""],
@@ -379,12 +379,72 @@ fn reports_of_words(rt: HostRuntime) -> Result<(), Fail> {
         (&["-"], NOT_BUILT, 12, "a word that begins with -"),
         (&["--unwind", "3", "a.c"], NOT_BUILT, 12, "no options"),
         (&["a.c", "a.c"], NOT_BUILT, 12, "two words"),
+        (
+            &["--mode", "recheck", "no.c"],
+            "READ no.c\n",
+            6,
+            "no proof file of the name",
+        ),
+        (
+            &["--mode", "recheck", "-"],
+            NOT_BUILT,
+            12,
+            "a proof file whose name begins with -",
+        ),
     ];
     for (words, report, status, reason) in table {
         let told = call(rt.alloc(), words, b"int main(void){}", AMPLE)
             .ok()
             .ok_or("memory")?;
         compare(&rt, &told, report, status, reason);
+    }
+    Ok(())
+}
+
+/// Proof files: the report, the status, and the reason of the row. None has evidence.
+#[test]
+fn rechecks(rt: HostRuntime) -> Result<(), Fail> {
+    let table: [Row; 7] = [
+        (
+            "p cnf 1 2\n1 0\n-1 0\nl 0 1 2 0\n",
+            "REFUTED formula 2 log 1\n",
+            0,
+            "both clauses lead to a false one",
+        ),
+        (
+            "p cnf 1 2\n1 0\n-1 0\nl 0 1 0\n",
+            "BADSTEP index 0\n",
+            11,
+            "the last hint's clause is only unit",
+        ),
+        (
+            "p cnf 1 2\n1 0\n-1 0\n",
+            "BADSTEP index 0\n",
+            11,
+            "no step is empty",
+        ),
+        ("p cnf 1 2\n1 0\n", "TEXT line 3\n", 10, "a clause is missing"),
+        ("p cnf 1\n1 0\n-1 0\n", "TEXT line 1\n", 10, "no number of clauses"),
+        ("p cnf 1 2\n2 0\n-1 0\n", "TEXT line 2\n", 10, "a variable too many"),
+        (
+            "p cnf 1 2\n1 0\n-1 0\nl 0 1 3 0\n",
+            "TEXT line 4\n",
+            10,
+            "a step that names itself",
+        ),
+    ];
+    for (text, report, status, reason) in table {
+        let told = call(
+            rt.alloc(),
+            &["--mode", "recheck", "a.c"],
+            text.as_bytes(),
+            AMPLE,
+        )
+        .ok()
+        .ok_or("memory")?;
+        assert_eq!(rt; told.text.items(), report.as_bytes(), "{reason}");
+        assert_eq!(rt; told.ended.status, status, "{reason}");
+        assert!(rt; !has_proof(&told.ended), "{reason}");
     }
     Ok(())
 }
