@@ -9,7 +9,7 @@ use Rattle.lz_tree.specs.Trees.{TranslationUnit}
 use Rattle.lz_tree.specs.Spelling.{SpellsExternals}
 use Rattle.lz_tree.specs.FirstFormScopes.{Program}
 use Rattle.lz_tree.specs.FirstForm.{first_form}
-use Rattle.lz_expr.specs.Fronts.{line_of}
+use Rattle.lz_expr.specs.Lines.{line_of}
 use Rattle.lz_parse.specs.Programs.{IsProgram, BeginsProgram, IsRefusedAt}
 use Rattle.lz_cli.specs.Source.{HasNoTokens, HasNoTree, HasTree, IsFirstForm, IsOtherForm}
 

@@ -1,6 +1,6 @@
 //! The words of a command line.
 
-ghost use Rattle.std.specs.Prelude.{◌≡◌, ℕ, List, IfSome, IfNone};
+ghost use Rattle.std.specs.Prelude.{◌≡◌, ◌↔◌, ℕ, List, codes, IsTrue, IfSome, IfNone};
 ghost use Rattle.lz_cli.specs.CommandLine.{begins_with_dash, IsFileName, IsProofName};
 
 use lz_base::{Name, Sequence};
@@ -32,7 +32,7 @@ pub fn proof_name(words: &Words) -> Option<&Name>
 {
     match words.items() {
         [option, mode, name] => {
-            if option.text() == "--mode" && mode.text() == "recheck" && !is_option(name.text()) {
+            if is_recheck(option, mode) && !is_option(name.text()) {
                 Some(name)
             } else {
                 None
@@ -40,6 +40,13 @@ pub fn proof_name(words: &Words) -> Option<&Name>
         }
         _ => None,
     }
+}
+
+/// Whether the words are `--mode` and `recheck`.
+fn is_recheck(option: &Name, mode: &Name) -> bool
+    ensures { IsTrue result ↔ ((option.now ≡ codes "--mode") × (mode.now ≡ codes "recheck")) }
+{
+    option.text() == "--mode" && mode.text() == "recheck"
 }
 
 /// Whether a word begins with `-`.
