@@ -1,4 +1,4 @@
--- Inner: The first step of a log that does not check.
+-- Trusted: The first step of a log that does not check.
 use Rattle.std.specs.Prelude.{◌≡◌, ◌↔◌, ℕ, ◌<◌, ◌≤◌, List, [], ◌∷◌, take, length, slice_index_or}
 use Rattle.std.specs.List.{All, Any, Contains}
 use Rattle.lz_cnf.specs.declared.clause.Lit.{Lit}

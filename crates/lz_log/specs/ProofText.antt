@@ -1,4 +1,4 @@
--- Inner: The text of a formula and its log.
+-- Trusted: The text of a formula and its log.
 use Rattle.std.specs.Prelude.{ℕ, ◌+◌, List, [], ◌++◌, length, codes, if◌then◌else◌}
 use Rattle.std.specs.List.{flat_map}
 use Rattle.std.specs.Fmt.{decimal}
