@@ -5,6 +5,7 @@ use Rattle.lz_tree.specs.Trees.{Expression, Expressions, none, and, expression, 
 use Rattle.lz_types.specs.declared.fault.Rule.{Rule}
 use Rattle.lz_types.specs.declared.place.Place.{Place}
 use Rattle.lz_types.specs.declared.value_type.Want.{Want}
+use Rattle.lz_types.specs.Constants.{constant_value, is_constant, are_constant}
 use Rattle.lz_types.specs.Files.{File}
 use Rattle.lz_types.specs.ValueTypes.{rule_list}
 use Rattle.lz_types.specs.ExpressionTypes.{count, first_want, rest_of, misplaced, is_broken, some_misplaced, is_none_of}
@@ -78,3 +79,25 @@ module _ (file : File) (place : Place) (rule : Rule) (ws : List Want) (further :
 
   pub breaks_none : (es : List Expr) (i : ℕ) → length es ≤ i → breaks_from es i ≡ false
   breaks_none es i over = rw (none_left es i over) refl
+
+-- ---- values of an array
+
+pub drop_nothing : {A : Type 0} (i : ℕ) → drop {A = A} i [] ≡ []
+drop_nothing zero = refl
+drop_nothing (suc i) = refl
+
+and_true : (a b : Bool) → not a ≡ false → (a && b) ≡ b
+and_true true b is = refl
+and_true false b is = absurd cc
+
+and_false : (a b : Bool) → not a ≡ true → (a && b) ≡ false
+and_false false b is = refl
+and_false true b is = absurd cc
+
+pub constant_more : (es : List Expr) (i : ℕ) (e : Expr) → i < length es → e ≡ get_or es i e → not (is_constant (constant_value (expression e))) ≡ false
+    → are_constant (left_at es i) ≡ are_constant (left_at es (i + 1))
+constant_more es i e below is right = rw (next es i e below is) (and_true (is_constant (constant_value (expression e))) (are_constant (left_at es (i + 1))) right)
+
+pub constant_not : (es : List Expr) (i : ℕ) (e : Expr) → i < length es → e ≡ get_or es i e → not (is_constant (constant_value (expression e))) ≡ true
+    → are_constant (left_at es i) ≡ false
+constant_not es i e below is wrong = rw (next es i e below is) (and_false (is_constant (constant_value (expression e))) (are_constant (left_at es (i + 1))) wrong)

@@ -1,3 +1,4 @@
+mod StatementLemmas
 mod WalkLemmas
 mod ArgumentsLemmas
 mod MeaningLemmas

@@ -131,18 +131,26 @@ abbrev pub element_limit : ℕ
 element_limit = 65536
 
 module _ (file : File) (place : Place) where
-  -- the rules that a declarator breaks by itself
-  abbrev pub declarator_rules : TypeName → InitDeclarator → List Rule
-  declarator_rules base d =
+  -- the rules that the name, the type and the length of a declarator break
+  abbrev pub declared_rules : TypeName → InitDeclarator → List Rule
+  declared_rules base d =
       values.when (has_object place d.name || meets_function place d.name) DeclaredTwice
       ++ (values.when (takes_known file d.name) KnownNameTaken
       ++ (values.when (is_nothing (value_type base) || is_pointer (value_type base)) TypeMisfit
-      ++ (values.when (is_bad_length d.length) BadLength
-      ++ (values.when (is_outside place && not (is_constant_initializer d.first)) NotConstant
+      ++ values.when (is_bad_length d.length) BadLength))
+
+  -- those that its initializer and its place break
+  abbrev pub placed_rules : TypeName → InitDeclarator → List Rule
+  placed_rules base d =
+      values.when (is_outside place && not (is_constant_initializer d.first)) NotConstant
       ++ (values.when (is_bad_initializer (value_type base) d.length d.first) BadInitializer
       ++ (values.when (is_thread (value_type base) && is_in_thread file (around place)) ThreadInThread
       ++ (values.when (not (is_outside place) && is_lock (value_type base)) LocalMutex
-      ++ values.when (is_outside place && nat_lt element_limit ((with_declarator place base d).counts.elements)) ManyElements)))))))
+      ++ values.when (is_outside place && nat_lt element_limit ((with_declarator place base d).counts.elements)) ManyElements)))
+
+  -- the rules that a declarator breaks by itself
+  abbrev pub declarator_rules : TypeName → InitDeclarator → List Rule
+  declarator_rules base d = declared_rules base d ++ placed_rules base d
 
   -- the faults of an initializer's values
   abbrev pub initializer_faults : TypeName → Initializer → List Fault

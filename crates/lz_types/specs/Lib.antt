@@ -6,6 +6,7 @@ pub mod Names
 pub mod Scopes
 pub mod ExpressionTypes
 pub mod Faults
+pub mod Views
 pub mod ScopedPrograms
 pub mod Calls
 pub mod Checking

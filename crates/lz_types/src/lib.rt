@@ -3,6 +3,8 @@
 
 mod arguments;
 mod constant;
+mod declarations;
+mod declare;
 mod expressions;
 mod fault;
 mod file;
@@ -11,6 +13,7 @@ mod names;
 mod place;
 mod reserved;
 mod signature;
+mod statements;
 mod value_type;
 mod walk;
 
