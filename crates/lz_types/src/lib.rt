@@ -13,7 +13,6 @@ mod names;
 mod place;
 mod reserved;
 mod signature;
-mod statements;
 mod value_type;
 mod walk;
 
