@@ -423,9 +423,24 @@ fn rechecks(rt: HostRuntime) -> Result<(), Fail> {
             11,
             "no step is empty",
         ),
-        ("p cnf 1 2\n1 0\n", "TEXT line 3\n", 10, "a clause is missing"),
-        ("p cnf 1\n1 0\n-1 0\n", "TEXT line 1\n", 10, "no number of clauses"),
-        ("p cnf 1 2\n2 0\n-1 0\n", "TEXT line 2\n", 10, "a variable too many"),
+        (
+            "p cnf 1 2\n1 0\n",
+            "TEXT line 3\n",
+            10,
+            "a clause is missing",
+        ),
+        (
+            "p cnf 1\n1 0\n-1 0\n",
+            "TEXT line 1\n",
+            10,
+            "no number of clauses",
+        ),
+        (
+            "p cnf 1 2\n2 0\n-1 0\n",
+            "TEXT line 2\n",
+            10,
+            "a variable too many",
+        ),
         (
             "p cnf 1 2\n1 0\n-1 0\nl 0 1 3 0\n",
             "TEXT line 4\n",
