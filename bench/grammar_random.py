@@ -191,6 +191,8 @@ def text_of(kinds, rng):
     for kind in kinds:
         word = spelled(kind, rng)
         space = gap(rng, True)
+        if made.endswith("/") and space.startswith("/"):
+            space = " " + space  # or the division sign would begin a comment
         while "%d" in space:
             space = space.replace("%d", str(defined), 1)
             defined += 1
