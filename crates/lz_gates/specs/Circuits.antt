@@ -1,5 +1,5 @@
 -- Inner: a circuit under construction, the assignments of its variables, and what a call that adds to it leaves (after Tseitin).
-use Rattle.std.specs.Prelude.{◌≡◌, ℕ, ◌<◌, ◌≤◌, ◌+◌, Bool, true, false, not, ◌||◌, List, [], ◌∷◌, ◌++◌, length, ⊤, if◌then◌else◌}
+use Rattle.std.specs.Prelude.{◌≡◌, ℕ, ◌<◌, ◌≤◌, ◌+◌, ◌==◌, Bool, true, false, not, ◌||◌, List, [], ◌∷◌, ◌++◌, length, ⊤, if◌then◌else◌}
 use Rattle.std.specs.List.{All}
 use Rattle.lz_cnf.specs.declared.clause.Lit.{Lit}
 use Rattle.lz_cnf.specs.Models.{variable_of, is_negated}
@@ -90,3 +90,14 @@ xor a b = if a then not b else b
 pub record IsFold (first second third : Lit) (v : Assignment → Bool) (lit : Lit) : Type 0 where
   pub says : (a : Assignment) → a 0 ≡ true → value a lit ≡ v a
   pub within : (n : ℕ) → 0 < n → variable_of first < n → variable_of second < n → variable_of third < n → variable_of lit < n
+
+-- Neither literal is a constant, and they are of different variables: other gates of two literals take no variable.
+pub record IsOpen (left right : Lit) : Type 0 where
+  pub left_open : 0 < variable_of left
+  pub right_open : 0 < variable_of right
+  pub apart : (variable_of left == variable_of right) ≡ false
+
+-- The test is no constant, and the sides differ: other choices take no variable.
+pub record IsOpenChoice (test yes no : Lit) : Type 0 where
+  pub test_open : 0 < variable_of test
+  pub apart : (yes.0 == no.0) ≡ false

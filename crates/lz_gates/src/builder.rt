@@ -1,9 +1,9 @@
 //! A formula that grows gate by gate (the encoding of Tseitin). A builder that has answered want of memory is spent:
 //! it answers that from then on, at each call that can.
-ghost use Rattle.std.specs.Prelude.{◌≡◌, ℕ, ◌+◌, ◌*◌, ◌<◌, ◌≤◌, ◌&&◌, true, false, List, [], ◌∷◌, ◌++◌, IfOk, OnOk, OnErr, IsErr, length};
+ghost use Rattle.std.specs.Prelude.{◌⊎◌, ◌≡◌, ℕ, ◌+◌, ◌*◌, ◌<◌, ◌≤◌, ◌&&◌, true, false, List, [], ◌∷◌, ◌++◌, IfOk, OnOk, OnErr, IsErr, length};
 ghost use Rattle.std.specs.List.{All};
 ghost use Rattle.lz_cnf.specs.Models.{IsFormula};
-ghost use Rattle.lz_gates.specs.Circuits.{Assignment, Satisfies, value, xor, choice, IsLit, AreLits, IsCircuit, Makes, first_clauses};
+ghost use Rattle.lz_gates.specs.Circuits.{Assignment, Satisfies, value, xor, choice, IsLit, AreLits, IsCircuit, Makes, IsOpen, IsOpenChoice, first_clauses};
 
 use crate::fold::{folded_and, folded_choice, folded_xor};
 use lz_base::{Memory, Sequence};
@@ -112,6 +112,7 @@ impl Builder {
         ensures more { OnOk result (self.old.variables ≤ self.new.variables) }
         ensures most { OnOk result (self.new.variables ≤ self.old.variables + 1) }
         ensures made { IfOk result (λ lit. Makes self.old self.new 1 3 (λ a. value a lit ≡ (value a left && value a right))) }
+        ensures folds { OnOk result ((IsOpen left right) ⊎ (self.new ≡ self.old)) }
         ensures working { OnOk result (self.new.spent ≡ false) }
         ensures err { OnErr result (self.new.spent ≡ true) }
         ensures stays_spent { self.old.spent ≡ true → IsErr result }
@@ -157,6 +158,7 @@ impl Builder {
         ensures more { OnOk result (self.old.variables ≤ self.new.variables) }
         ensures most { OnOk result (self.new.variables ≤ self.old.variables + 1) }
         ensures made { IfOk result (λ lit. Makes self.old self.new 1 4 (λ a. value a lit ≡ xor (value a left) (value a right))) }
+        ensures folds { OnOk result ((IsOpen left right) ⊎ (self.new ≡ self.old)) }
         ensures working { OnOk result (self.new.spent ≡ false) }
         ensures err { OnErr result (self.new.spent ≡ true) }
         ensures stays_spent { self.old.spent ≡ true → IsErr result }
@@ -241,6 +243,7 @@ impl Builder {
         ensures more { OnOk result (self.old.variables ≤ self.new.variables) }
         ensures most { OnOk result (self.new.variables ≤ self.old.variables + 1) }
         ensures made { IfOk result (λ lit. Makes self.old self.new 1 6 (λ a. value a lit ≡ choice (value a test) (value a yes) (value a no))) }
+        ensures folds { OnOk result ((IsOpenChoice test yes no) ⊎ (self.new ≡ self.old)) }
         ensures working { OnOk result (self.new.spent ≡ false) }
         ensures err { OnErr result (self.new.spent ≡ true) }
         ensures stays_spent { self.old.spent ≡ true → IsErr result }

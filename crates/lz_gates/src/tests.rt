@@ -107,6 +107,50 @@ fn folded_choices(rt: HostRuntime) -> Result<(), Fail> {
     Ok(())
 }
 
+/// A choice with a constant side is a conjunction: one variable and three clauses, with the choice's values.
+#[test]
+fn choices_with_a_constant_side(rt: HostRuntime) -> Result<(), Fail> {
+    // for each row: the number of the side that is constant, that constant's literal, and why
+    for (first, constant, reason) in [
+        (true, 0, "either of the two"),
+        (true, 1, "the second without the test"),
+        (false, 0, "the first, or not the test"),
+        (false, 1, "both"),
+    ] {
+        let (mut builder, test) = started(rt.alloc())?;
+        let open = builder.fresh().ok().ok_or("memory")?;
+        let side = if constant == 0 {
+            builder.truth()
+        } else {
+            builder.falsity()
+        };
+        let (yes, no) = if first { (side, open) } else { (open, side) };
+        let chosen = builder.choose_gate(test, yes, no).ok().ok_or("memory")?;
+        builder.require(&[chosen]).ok().ok_or("memory")?;
+        let formula = builder.finish();
+        assert_eq!(rt;
+            (formula.variables, formula.clauses.items().len()),
+            (4, 5),
+            "{reason}"
+        );
+        for x in VALUES {
+            for y in VALUES {
+                let constant = constant == 0;
+                let wanted = if first == x { constant } else { y };
+                for gate in VALUES {
+                    let mut model = Assignment::new(rt.alloc());
+                    for value in [true, x, y, gate] {
+                        model.push(value).ok().ok_or("memory")?;
+                    }
+                    let right = wanted && gate == (chosen.0 % 2 == 0);
+                    assert_eq!(rt; formula.satisfied_by(&model), right, "{reason}");
+                }
+            }
+        }
+    }
+    Ok(())
+}
+
 /// A builder that gave up answers want of memory.
 #[test]
 fn spent_builder_answers_want_of_memory(rt: HostRuntime) -> Result<(), Fail> {
