@@ -123,78 +123,96 @@ fn type_shape(of: TypeName) -> &'static str {
     }
 }
 
-/// A declarator with its line, its length and its initializer.
-fn declarator_shape(alloc: Global, of: &Declarator) -> Result<String, AllocError> {
-    let line = of.line;
-    let name = letter(of.name);
-    let length = shape_or_none(&of.length);
-    let mut first = String::new(alloc);
-    match &of.first {
-        First::Nothing => {}
-        First::Value { value } => first.push_str(shape(value))?,
-        First::Listed { values, comma } => {
-            first.push_str("{")?;
-            for value in values {
-                first.push_str(shape(value))?;
-            }
-            first.push_str(if *comma { ",}" } else { "}" })?;
-        }
-        First::Mutex => first.push_str("X")?,
-        First::Cond => first.push_str("Y")?,
+/// Writes texts one after the other.
+fn put(text: &mut String, parts: &[&str]) -> Result<(), AllocError> {
+    for part in parts {
+        text.push_str(part)?;
     }
-    format!(in alloc; " {line}{name}[{length}]{first}")
+    Ok(())
 }
 
-/// A declaration with its line, its type and its declarators.
-fn objects_shape(alloc: Global, of: &Objects) -> Result<String, AllocError> {
-    let line = of.line;
-    let base = type_shape(of.base);
-    let mut text = format!(in alloc; "({line}{base}")?;
-    for declarator in of.declarators.items() {
-        text.push_str(declarator_shape(alloc, declarator)?.as_str())?;
-    }
-    text.push_str(")")?;
-    Ok(text)
+/// Writes a line behind an open parenthesis, and what comes next.
+fn put_line(
+    text: &mut String,
+    alloc: Global,
+    open: &str,
+    line: u32,
+    next: &str,
+) -> Result<(), AllocError> {
+    text.push_str(open)?;
+    text.push_str(format!(in alloc; "{line}")?.as_str())?;
+    text.push_str(next)
 }
 
-/// A statement with each node in parentheses and its line before it.
-#[cycle(statement_shape)]
-fn statement_shape(alloc: Global, of: &Stmt) -> Result<String, AllocError> {
+/// Writes an initializer.
+fn put_first(text: &mut String, of: &First) -> Result<(), AllocError> {
     match of {
-        Stmt::Empty => format!(in alloc; "(;)"),
-        Stmt::Eval { value } => {
-            let value = shape(value);
-            format!(in alloc; "({value};)")
-        }
-        Stmt::Block { parts } => {
-            let mut text = format!(in alloc; "({{")?;
-            for part in parts {
-                text.push_str(statement_shape(alloc, part)?.as_str())?;
+        First::Nothing => Ok(()),
+        First::Value { value } => text.push_str(shape(value)),
+        First::Listed { values, comma } => {
+            text.push_str("{")?;
+            for value in values {
+                text.push_str(shape(value))?;
             }
-            text.push_str("})")?;
-            Ok(text)
+            text.push_str(if *comma { ",}" } else { "}" })
         }
-        Stmt::Declare { of } => objects_shape(alloc, of),
+        First::Mutex => text.push_str("X"),
+        First::Cond => text.push_str("Y"),
+    }
+}
+
+/// Writes a declarator with its line, its length and its initializer.
+fn put_declarator(text: &mut String, alloc: Global, of: &Declarator) -> Result<(), AllocError> {
+    put_line(text, alloc, " ", of.line, letter(of.name))?;
+    put(text, &["[", shape_or_none(&of.length), "]"])?;
+    put_first(text, &of.first)
+}
+
+/// Writes a declaration with its line, its type and its declarators.
+fn put_objects(text: &mut String, alloc: Global, of: &Objects) -> Result<(), AllocError> {
+    put_line(text, alloc, "(", of.line, type_shape(of.base))?;
+    for declarator in of.declarators.items() {
+        put_declarator(text, alloc, declarator)?;
+    }
+    text.push_str(")")
+}
+
+/// Writes a statement with each node in parentheses and its line before it.
+#[cycle(put_statement)]
+fn put_statement(text: &mut String, alloc: Global, of: &Stmt) -> Result<(), AllocError> {
+    match of {
+        Stmt::Empty => text.push_str("(;)"),
+        Stmt::Eval { value } => put(text, &["(", shape(value), ";)"]),
+        Stmt::Block { parts } => {
+            text.push_str("({")?;
+            for part in parts {
+                put_statement(text, alloc, part)?;
+            }
+            text.push_str("})")
+        }
+        Stmt::Declare { of } => put_objects(text, alloc, of),
         Stmt::If {
             line,
             test,
             yes,
             no,
         } => {
-            let test = shape(test);
-            let yes = statement_shape(alloc, yes)?;
-            let no = branch_shape(alloc, no)?;
-            format!(in alloc; "({line}I{test}{yes}{no})")
+            put_line(text, alloc, "(", *line, "I")?;
+            text.push_str(shape(test))?;
+            put_statement(text, alloc, yes)?;
+            put_branch(text, alloc, no)?;
+            text.push_str(")")
         }
         Stmt::While { line, test, body } => {
-            let test = shape(test);
-            let body = statement_shape(alloc, body)?;
-            format!(in alloc; "({line}W{test}{body})")
+            put_line(text, alloc, "(", *line, "W")?;
+            text.push_str(shape(test))?;
+            put_statement(text, alloc, body)?;
+            text.push_str(")")
         }
         Stmt::Do { line, body, test } => {
-            let test = shape(test);
-            let body = statement_shape(alloc, body)?;
-            format!(in alloc; "({line}D{body}{test})")
+            put_line(text, alloc, "(", *line, "D")?;
+            put_statement(text, alloc, body)?;
+            put(text, &[shape(test), ")"])
         }
         Stmt::For {
             line,
@@ -203,33 +221,40 @@ fn statement_shape(alloc: Global, of: &Stmt) -> Result<String, AllocError> {
             step,
             body,
         } => {
-            let first = statement_shape(alloc, first)?;
-            let test = shape_or_none(test);
-            let step = shape_or_none(step);
-            let body = statement_shape(alloc, body)?;
-            format!(in alloc; "({line}F{first}{test}{step}{body})")
+            put_line(text, alloc, "(", *line, "F")?;
+            put_statement(text, alloc, first)?;
+            put(text, &[shape_or_none(test), shape_or_none(step)])?;
+            put_statement(text, alloc, body)?;
+            text.push_str(")")
         }
-        Stmt::Break { line } => format!(in alloc; "({line}B)"),
-        Stmt::Continue { line } => format!(in alloc; "({line}C)"),
+        Stmt::Break { line } => put_line(text, alloc, "(", *line, "B)"),
+        Stmt::Continue { line } => put_line(text, alloc, "(", *line, "C)"),
         Stmt::Return { line, value } => {
-            let value = shape_or_none(value);
-            format!(in alloc; "({line}R{value})")
+            put_line(text, alloc, "(", *line, "R")?;
+            put(text, &[shape_or_none(value), ")"])
         }
         Stmt::Label { name, of } => {
-            let name = letter(*name);
-            let of = statement_shape(alloc, of)?;
-            format!(in alloc; "({name}:{of})")
+            put(text, &["(", letter(*name), ":"])?;
+            put_statement(text, alloc, of)?;
+            text.push_str(")")
         }
     }
 }
 
-/// What stands behind `else`.
-#[cycle(statement_shape)]
-fn branch_shape(alloc: Global, of: &Option<Box<Stmt>>) -> Result<String, AllocError> {
+/// Writes what stands behind `else`.
+#[cycle(put_statement)]
+fn put_branch(text: &mut String, alloc: Global, of: &Option<Box<Stmt>>) -> Result<(), AllocError> {
     match of {
-        None => Ok(String::new(alloc)),
-        Some(of) => statement_shape(alloc, of),
+        None => Ok(()),
+        Some(of) => put_statement(text, alloc, of),
     }
+}
+
+/// A statement as text.
+fn statement_shape(alloc: Global, of: &Stmt) -> Result<String, AllocError> {
+    let mut text = String::new(alloc);
+    put_statement(&mut text, alloc, of)?;
+    Ok(text)
 }
 
 /// Parameters with their lines, and whether they are the word `void`.
@@ -242,7 +267,8 @@ fn params_shape(alloc: Global, params: &[Param], void_word: bool) -> Result<Stri
             Some(name) => letter(name),
             None => "-",
         };
-        text.push_str(format!(in alloc; "({line}{base}{name})")?.as_str())?;
+        put_line(&mut text, alloc, "(", line, base)?;
+        put(&mut text, &[name, ")"])?;
     }
     if void_word {
         text.push_str("void")?;
