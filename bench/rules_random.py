@@ -1,15 +1,17 @@
 #!/usr/bin/env python3
 """Compares the program with a checker of the rules and a count of slots and cost of its own.
-Run it from anywhere: bench/rules_random.py PROGRAM [--seed S] [--programs N] [--words "WORDS"] [--only KIND], where PROGRAM is the
-command lazycheck and WORDS stand before the file (`--unwind N` and `--rounds K` among them set the bounds of slots and cost).
-bench/rules_random.py --self prints each program with the answer that is expected, --rows the table of rows with theirs, --gcc
-compiles random accepted programs with gcc, and --cost FILE prints what this checker says of one file.
+Run it from anywhere: bench/rules_random.py PROGRAM [--seed S] [--programs N] [--words "WORDS"] [--only KIND] [--shrink], where PROGRAM
+is the command lazycheck and WORDS stand before the file (`--unwind N` and `--rounds K` among them set the bounds of slots and cost).
+--self prints each program with the answer that is expected, --gcc compiles random accepted programs with gcc, and --cost FILE prints
+what this checker says of one file; these need no PROGRAM.
 
-Everything here is written from docs/LANGUAGE.md: a lexer and a parser of the language, the 26 rules, slots and cost. It shares no
-form with the program's checker: names are resolved in a pass of their own, and a second pass without scopes lists all faults. Random
-accepted programs come from a generator that knows types and scopes; faults are spliced in at places that the generator kept, one rule
-at a time, two at a time, and blindly by exchanging tokens. What is expected of a program always comes from the checker below, so an
-accepted program that is called faulty, or a mutant whose rule is not among its faults, is told as a fault of this script."""
+Everything here is written from the text of the rules (docs/LANGUAGE.md): a lexer and a parser, the 26 rules, slots and cost. It shares
+no form with the program's checker: names are resolved in a pass of their own, and a second pass without scopes lists all faults.
+Random accepted programs come from a generator that knows types and scopes. Faults are spliced in at places that the generator kept: one
+rule at a time, two at a time, near misses, statements and externals of any form, and blindly by exchanged tokens. Other programs stand
+at the limits of cost and slots, or past them, where the report tells the exact number. What is expected always comes from the checker
+below; rows with answers that were worked out by hand are compared with it first. Told are each disagreement (as small as it gets
+with --shrink), each form that never broke its rule, and how many programs had each answer."""
 
 import argparse
 import collections
@@ -2181,6 +2183,15 @@ COSTS = [
 EMPTY = "int main(void) { }"
 
 
+def two_workers():
+    """Two workers that each add four times under a mutex, as a program of the form that the command makes by itself."""
+    adds = "pthread_mutex_lock(&m); total = total + 7u; pthread_mutex_unlock(&m); " * 4
+    workers = "".join(f"void *worker{j}(void *arg) {{ {adds} return NULL; }}\n" for j in (1, 2))
+    threads = "".join(f"pthread_create(&t[{j - 1}], NULL, worker{j}, NULL); " for j in (1, 2)) + "pthread_join(t[0], NULL); " * 2
+    ends = f"int main(void) {{ pthread_t t[2]; {threads} assert(total == 56u); return 0; }}"
+    return f"pthread_mutex_t m = PTHREAD_MUTEX_INITIALIZER;\nunsigned int total;\n{workers}{ends}\n"
+
+
 def rows():
     """Each row as bounds, the report that it must have (None where it is accepted within the limits), and its text."""
     for answer, text in ROWS:
@@ -2307,6 +2318,24 @@ def agrees(report, status, printed):
     return (status, printed) == (4 if report.startswith("SOURCE") else 5, report + "\n")
 
 
+def shrunk(text, disagrees, tries=3000):
+    """A text with as many pieces as may be left out, on which the two still disagree."""
+    pieces = re.findall(r"/\*.*?\*/|//[^\n]*|\"(?:[^\"\\\n]|\\.)*\"|\w+|\s+|.", text, re.DOTALL)
+    size = len(pieces) // 2
+    while size and tries:
+        at, before = 0, len(pieces)
+        while at < len(pieces) and tries:
+            tries -= 1
+            tried = pieces[:at] + pieces[at + size :]
+            if disagrees("".join(tried)):
+                pieces = tried
+            else:
+                at += size
+        if len(pieces) == before or size > 1:
+            size //= 2
+    return "".join(pieces)
+
+
 class Tally:
     """What was compared, and what disagreed."""
 
@@ -2331,10 +2360,27 @@ class Tally:
         elif self.options.program:
             status, printed = answered(self.options.program, self.words, text, folder)
             if not agrees(report, status, printed):
+                if self.options.shrink:
+                    text = shrunk(text, lambda tried: self.disagrees(tried, folder))
+                    report, (status, printed) = self.mine(text)[0], answered(self.options.program, self.words, text, folder)
                 self.tell(kind, report, text, f"{status} {printed.strip()}")
+
+    def mine(self, text):
+        return expected(text, self.turns, self.rounds)
+
+    def disagrees(self, text, folder):
+        """Whether a text is a program of the grammar on which the two disagree."""
+        try:
+            report, faults = self.mine(text)
+        except Exception:  # pylint: disable=broad-except
+            return False
+        return faults is not None and not agrees(report, *answered(self.options.program, self.words, text, folder))
 
 
 def compare_rows(tally, folder):
+    costs = Costs(Checker(two_workers()), 2, 2)
+    if (costs.slots, costs.cost) != (2, 223232):
+        tally.tell("slots and cost of two workers", "2 223232", two_workers(), f"{costs.slots} {costs.cost}")
     for turns, rounds, report, text in rows():
         mine, faults = expected(text, turns, rounds)
         if mine != report:
@@ -2353,7 +2399,7 @@ def compare_random(tally, folder):
         if not found:
             continue
         text, form = found
-        report, faults = expected(text, tally.turns, tally.rounds)
+        report, faults = tally.mine(text)
         if faults is None:
             continue  # a change that leaves no program of the grammar
         if kind == "accepted" and faults:
@@ -2418,6 +2464,7 @@ def main():
     parser.add_argument("--self", action="store_true", help="print each program with the expected answer")
     parser.add_argument("--gcc", action="store_true", help="compile accepted programs with gcc")
     parser.add_argument("--cost", default="", metavar="FILE", help="what this checker says of a file")
+    parser.add_argument("--shrink", action="store_true", help="leave out of each disagreement what can be left out")
     parser.add_argument("--verbose", action="store_true", help="how often each form broke its rule")
     options = parser.parse_args()
     answer = []
