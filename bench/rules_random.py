@@ -1195,7 +1195,7 @@ class Generator:
 
     def order(self):
         """The externals in order of text."""
-        made = [("function", plan) for plan in self.functions] + [("objects", None)] * self.rng.randrange(1, 5)
+        made = [("function", plan) for plan in self.functions] + [("objects", None)] * self.rng.randrange(2, 7)
         if self.plain:
             self.rng.shuffle(made)
             return [("prototype", plan) for plan in self.functions] + made
@@ -1440,10 +1440,10 @@ class Generator:
             ways += [["pthread_cond_" + word, "(", "&", cond, ")"] for word in ("signal", "broadcast", "destroy")]
             ways.append(["pthread_cond_init", "(", "&", cond, ",", zero(), ")"])
         if mutex and cond:
-            ways.append(["pthread_cond_wait", "(", "&", cond, ",", "&", mutex, ")"])
+            ways += [["pthread_cond_wait", "(", "&", cond, ",", "&", mutex, ")"]] * 3
         if thread and not self.plan.reached:
             routines = [plan.name for plan in self.functions if plan.gives == ADDRESS and plan.name not in self.view().objects]
-            if routines and self.chance(0.5):
+            if routines and self.chance(0.6):
                 ways = [["pthread_create", "(", "&", thread, ",", zero(), ",", rng.choice(routines), ",", self.address(1), ")"]]
             else:
                 ways.append(["pthread_join", "(", thread, ",", zero(), ")"])
@@ -2104,6 +2104,13 @@ ROWS = [
     ("rule 18 line 1", "void pthread_exit(void *); {main}"),
     ("rule 18 line 1", "void *f(); {main}"),
     ("rule 18 line 2", "int main(void) { g(0); }\nint g(void *a) { return 1; }"),
+    ("rule 18 line 1", "void *f(int a) { return 0; } {main}"),
+    ("rule 18 line 1", "void *f(void *a,\nvoid *b) { return 0; } {main}"),
+    ("rule 18 line 2", "int f(int b,\nvoid *a) { return 0; } {main}"),
+    ("rule 16 line 1", "pthread_t t; int main(void) { pthread_create(&t, 0, f, 0); }\nvoid *f(int a) { return 0; }"),
+    ("rule 16 line 1", "pthread_t t; int main(void) { pthread_create(&t, 0, f, 0); }\nvoid f(void *a) { }"),
+    ("rule 24 line 2", "static\nchar x; {main}"),
+    ("rule 18 line 1", "static\nvoid *f(void); {main}"),
     ("rule 25 line 1", "void reach_error(int); void reach_error(void) { } {main}"),
     ("accepted", "int assert(int, int); int main(void) { assert(1); }"),
     ("accepted", "int f(); int f(int a) { return a; } {main}"),
@@ -2135,6 +2142,21 @@ ROWS = [
     ("rule 23 line 2", "".join(f"int a{k}[4096]; " for k in range(15)) + "pthread_mutex_t p[4096]; pthread_cond_t\nq; {main}"),
 ]  # fmt: skip
 
+# constant expressions that give a length, and ones with the value 0, which is none; a wrong operator, kind or grouping turns them about
+LENGTHS = r"""
+-7 / 2 + 4; (-8 >> 1) + 5; (1 << 33) - 1; -1 < 1; 65536u * 65536u + 1; (-2147483647 - 1) / -1 + 2147483647 + 2; ~0 + 2; !5 + 1
+4294967295u + 2u; 5 & 3; 5 ^ 4; (4 | 1) - 4; 1 ? 1 : 0; 0 ? 0 : 1; (1 ? -1 : 1u) > 0; (-1 >> 1u) + 2; -1 >> 31 < 0; 7 % -2
+(1u < 2u) - 2 < 0; (1u && 1u) - 2 < 0; !1u - 1 < 0; -1u > 0; ~0u > 5; (unsigned)-1 > 0; (int)4294967295u < 0; 0xFFFFFFFF > 0
+037777777777 > 0; 0x7FFFFFFF + 1 < 0; 2147483647 + 1 < 0; -7 % 2 + 2; 7 / -2 + 4; (-2147483647 - 1) % -1 + 1; 1 << -31 == 2; 'a' - 96
+'\0' + 1; -1 / 2u - 2147483646; 3 - 1 - 1; 8 / 4 / 2; 1 + 2 * 3 == 7; (1 | 2 ^ 2 & 0) == 3; 1 << 1 + 1 == 4; 2 > 1 == 1; 1 == 1 & 1
+(-1 < 0u) + 1; 1 >> 32; 256 >> 8; 4294967295u >> 31; -1 * -1; 0u - 1 == 4294967295u; 2147483648u == -2147483647 - 1; 1 ? 1 : 0 ? 2 : 3
+"""
+NO_LENGTHS = """
+-7 % 2 + 1; -1 < 1u; 0 && 1; 0 || 0; !7; 5 & 2; 3 ^ 3; 0 | 0; 1 >> 1; 2 - 1 - 1; 7 / 8; 4096 > 4096; 1 ? 0 : 1; -7 / 2 + 3; 1 - 1u
+(unsigned)-1 < 0; 65536 * 65536; 2147483648u << 1; (1 ? -1 : 1u) < 0; 1 == 2; 3 != 3; 5 <= 4; 4 >= 5; 0 ? 1 : 0; ~4294967295u; -1 - -1
+(-8 >> 1) + 4; (1 << 33) - 2; (-1 >> 1) + 1; 8 - 4 - 4; 4097; -1; 1 / 0; 1 || 1 / 0; 0 ? 1 % 0 : 1; NULL; (void *)1; 4294967297u
+"""
+
 # bounds of turns and rounds, the answer, the program
 BOUNDED = [
     (2, 2, "LIMIT cost 18446744073709551615 over 10000000",
@@ -2143,6 +2165,12 @@ BOUNDED = [
     (17, 2, "LIMIT slots 17 over 16",
      "void *f(void *a) { return NULL; } int main(void) { pthread_t t; while (1) pthread_create(&t, NULL, f, NULL); }"),
     (16, 2, None, "void *f(void *a) { return NULL; } int main(void) { pthread_t t; while (1) pthread_create(&t, NULL, f, NULL); }"),
+    (2, 2, None, "int main(void) { int a[4096], b[782]; (int)0; (int)0; (int)0; }"),
+    (2, 2, "LIMIT cost 10000384 over 10000000", "int main(void) { int a[4096], b[782]; (int)0; (int)0; (int)0; (int)0; }"),
+    (2, 2, None, "void *f(void *a) { } pthread_t t; int main(void) { while (1) do do do pthread_create(&t, 0, f, 0); while (1);"
+     " while (1); while (1); }"),
+    (2, 2, "LIMIT slots 17 over 16", "void *f(void *a) { } pthread_t t; int g(void) { return pthread_create(&t, 0, f, 0); }"
+     " int main(void) { while (1) do do do g(); while (1); while (1); while (1); g(); }"),
     (2, 2, "LIMIT slots 28 over 16",
      "void *f(void *a) { } int main(void) { pthread_t t; while (1) do { for (pthread_create(&t, 0, f, 0); pthread_create(&t, 0, f, 0);"
      " pthread_create(&t, 0, f, 0)) ; } while (pthread_create(&t, 0, f, 0)); }"),
@@ -2200,6 +2228,9 @@ def rows():
             rule, line = answer.split()[1::2]
             report = f"SOURCE line {line} rule {rule}"
         yield 2, 2, report, text.replace("{main}", EMPTY)
+    for answer, table in ((None, LENGTHS), ("SOURCE line 2 rule 8", NO_LENGTHS)):
+        for row in re.split("; |\n", table.strip()):
+            yield 2, 2, answer, f"int main(void) {{\nint a[{row}]; }}"
     yield from BOUNDED
     for statements, number in COSTS:
         total = 2 * (4096 + 2 * 4096 * 1024 + number)
@@ -2220,7 +2251,20 @@ int pthread_mutex_init(pthread_mutex_t *, void *), pthread_mutex_destroy(pthread
 int pthread_mutex_unlock(pthread_mutex_t *), pthread_cond_init(pthread_cond_t *, void *), pthread_cond_destroy(pthread_cond_t *);
 int pthread_cond_wait(pthread_cond_t *, pthread_mutex_t *), pthread_cond_signal(pthread_cond_t *), pthread_cond_broadcast(pthread_cond_t *);
 """
-KINDS = ["accepted", "one", "one", "one", "near", "pair", "pair", "wild", "wild", "exchanged", "exchanged", "cost", "slots"]
+KINDS = """accepted one one one near pair pair wild wild exchanged exchanged cost slots constants""".split()
+
+
+def computed(generator, rng):
+    """The tokens of declarations whose lengths are 1 where constant expressions have the values that they should, or, seldom, are none."""
+    made = []
+    for number in range(15):
+        row = " ".join(flat(generator.constant_form(3)))
+        value = constant_of(Parser(row).assign())
+        if value is not None:
+            row = f"( {row} ) {'!=' if rng.random() < 0.02 else '=='} {value[1]}u"
+        if value is not None or rng.random() < 0.05:
+            made.append(f"int zz{number} [ {row} ] ;")
+    return " ".join(made + [EMPTY]).replace("(void)", "( )").split()
 
 
 def padded(mutator, rng, turns, rounds):
@@ -2248,22 +2292,23 @@ def crowded(mutator, rng, turns, rounds):
     tops = [place for place in mutator.places if place.kind == "statement" and place.view.plan and place.view.plan.name == "main"]
     routine = (None, rng.randrange(len(mutator.generator.externals) + 1), "void * zzs ( void * a ) { return a ; }".split())
     wanted, edits = rng.randrange(15, 19), {tops[0]: "pthread_t zzt , zzu [ 3 ] ;".split()}
-    forms_of_it = ["pthread_create ( & zzt , 0 , zzs , 0 ) ;", "pthread_create ( & zzu [ 1 ] , 0 , zzs , 0 ) ;", "{threaded} ;"]
-    for _ in range(40):
+    once = "pthread_create ( & zzt , 0 , zzs , 0 ) ;".split()
+
+    def with_edits(made):
+        tokens = mutator.rendered([routine] + [(place, None, row) for place, row in made.items()])
+        return tokens, Costs(Checker(" ".join(tokens)), turns, rounds).slots
+
+    for _ in range(4):
         place = rng.choice(tops)
-        row = mutator.fill(rng.choice(forms_of_it), place.view)
-        if row is None:
-            continue
-        tried = dict(edits)
-        tried[place] = tried.get(place, []) + row.split(" ")
-        tokens = mutator.rendered([routine] + [(one, None, words) for one, words in tried.items()])
-        slots = Costs(Checker(" ".join(tokens)), turns, rounds).slots
-        if slots > wanted:
-            continue
-        edits = tried
-        if slots == wanted:
-            return tokens
-    return None
+        row = mutator.fill(rng.choice(["pthread_create ( & zzu [ 1 ] , 0 , zzs , 0 ) ;", "{threaded} ;"]), place.view)
+        if row:
+            tried = dict(edits)
+            tried[place] = tried.get(place, []) + row.split(" ")
+            if with_edits(tried)[1] <= wanted:
+                edits = tried
+    left = wanted - with_edits(edits)[1]
+    edits[tops[0]] = edits[tops[0]] + once * max(left, 0)
+    return with_edits(edits)[0] if left >= 0 else None
 
 
 def made(kind, rng, table, turns, rounds):
@@ -2293,6 +2338,8 @@ def made(kind, rng, table, turns, rounds):
             else:
                 edits.append((rng.choice([place for place in mutator.places if place.kind == "statement"]), None, wild.statement().split()))
         tokens = mutator.rendered(edits)
+    elif kind == "constants":
+        tokens = computed(generator, rng)
     elif kind == "exchanged":
         tokens = exchanged(mutator.rendered([]), rng)
     else:
