@@ -67,8 +67,8 @@ def circle(size):
 
 
 def late_circle(size):
-    """Functions that call all those before them in steps, and a call that comes back at the end."""
-    rows = [f"void f{i}(void) {{ " + "".join(f"f{j}();" for j in range(max(i - 3, 0), i) if j % 90) + " }\n" for i in range(size)]
+    """Groups of 90 functions that each call the three before them, and a call that comes back at the end of the file."""
+    rows = [f"void f{i}(void) {{ " + "".join(f"f{j}();" for j in range(max(i - 3, i - i % 90), i)) + " }\n" for i in range(size)]
     return "".join(rows) + "void g(void) { g(); }\nint main(void) { }\n"
 
 
