@@ -1299,6 +1299,9 @@ class Generator:
         if not free:
             free = [f"more{len(self.scopes[-1])}"]
         name = rng.choice(free)
+        hidden = [name for scope in self.scopes[:-1] for name in scope if name not in self.scopes[-1] and name != "reach_error"]
+        if hidden and self.chance(0.4):
+            name = rng.choice(hidden)
         if not self.plain and self.chance(0.02) and "reach_error" not in self.taken and "reach_error" not in self.scopes[-1]:
             name = "reach_error"  # the one known name that may be declared
         length, made = None, [name]
@@ -1339,13 +1342,14 @@ class Generator:
         rng = self.rng
         if depth <= 0 or self.chance(0.3):
             large = rng.choice(["4294967295u", "0xFFFFFFFF", "2147483648u"])
-            return [self.spelled(rng.choice(NUMBERS)) if self.plain or self.chance(0.9) else large]
+            leaf = [self.spelled(rng.choice(NUMBERS)) if self.plain or self.chance(0.9) else large]
+            return ["(", "-", leaf, ")"] if self.chance(0.25) else leaf
         inner = lambda: ["(", self.constant_form(depth - 1), ")"] if self.chance(0.7) else [self.spelled(rng.choice(NUMBERS))]
         return self.any_of(
             lambda: [rng.choice(["+", "-", "~", "!"]), inner()],
             lambda: ["(", self.type(rng.choice([INT, UNSIGNED])), ")", inner()],
             lambda: [inner(), rng.choice(list(TIGHT)), inner()],
-            lambda: [inner(), rng.choice(list(TIGHT)), inner()],
+            lambda: [inner(), rng.choice(["/", "%", ">>", "<<", "<", ">=", "*"]), inner()],
             lambda: [inner(), "?", inner(), ":", inner()],
         )
 
