@@ -1,6 +1,6 @@
-ghost use Rattle.std.specs.Prelude.{◌≡◌, ℕ, ◌<◌, ◌≤◌, length, Some, None, IsTrue};
-ghost use Rattle.lz_prop.specs.Trail.{IsTrail, entry_of, value_in, gone_back};
-ghost use Rattle.lz_solve.specs.Search.{IsFree, AreAssigned};
+ghost use Rattle.std.specs.Prelude.{◌≡◌, ℕ, ◌<◌, ◌≤◌, length, Some, IsTrue};
+ghost use Rattle.lz_prop.specs.Trail.{IsTrail, entry_of, level_in, gone_back};
+ghost use Rattle.lz_solve.specs.Search.{IsFree};
 
 use crate::order::Order;
 use lz_cnf::Lit;
@@ -52,6 +52,7 @@ pub fn choose(order: &mut Order, trail: &Trail, variables: u32) -> Option<u32>
 /// The level of a variable, or 0.
 fn level_from(trail: &Trail, variable: u32, variables: u32) -> u32
     requires { variables ≡ trail.now.variables }
+    ensures { (own : ℕ) → level_in (entry_of trail.now.set variable) ≡ Some own → variable < variables → own ≡ result }
 {
     if variable >= variables {
         return 0;
@@ -65,6 +66,7 @@ fn level_from(trail: &Trail, variable: u32, variables: u32) -> u32
 /// The variables above a level wait again.
 fn release(order: &mut Order, trail: &Trail, level: u32, variables: u32)
     requires { variables ≡ trail.now.variables }
+    ensures { order.old.count ≤ order.new.count }
 {
     let lits = trail.order();
     let mut left = lits.len();
@@ -83,6 +85,7 @@ pub fn go_back(order: &mut Order, trail: &mut Trail, level: u32, variables: u32)
     requires variables { variables ≡ trail.old.variables }
     requires level { level ≤ trail.old.level }
     ensures back { trail.new ≡ gone_back trail.old level }
+    ensures waiting { order.old.count ≤ order.new.count }
     ensures trail { IsTrail trail.new }
 {
     release(order, trail, level, variables);
@@ -90,7 +93,9 @@ pub fn go_back(order: &mut Order, trail: &mut Trail, level: u32, variables: u32)
 }
 
 /// Raises the scores of a clause's variables.
-fn raise_clause(order: &mut Order, clause: &[Lit]) {
+fn raise_clause(order: &mut Order, clause: &[Lit])
+    ensures { order.new.count ≡ order.old.count }
+{
     for lit in clause {
         order.raise(lit.0 / 2);
     }
@@ -99,6 +104,7 @@ fn raise_clause(order: &mut Order, clause: &[Lit]) {
 /// Raises the scores of the variables of the clauses that the hints name.
 pub fn raise_hints(order: &mut Order, trail: &Trail, hints: &[u32], count: usize)
     requires { count ≡ length trail.now.clauses }
+    ensures { order.new.count ≡ order.old.count }
 {
     for hint in hints {
         if *hint > 0 && *hint as usize <= count {

@@ -1,4 +1,4 @@
-ghost use Rattle.std.specs.Prelude.{◌≡◌, ◌≤◌, ◌*◌, ◌<◌};
+ghost use Rattle.std.specs.Prelude.{◌≡◌, ◌<◌, ◌≤◌, length, slice_index, slice_set, IfOk};
 ghost use Rattle.lz_cnf.specs.Models.{variable_of};
 
 use lz_base::Memory;
@@ -45,7 +45,10 @@ pub struct Order {
 const RUN: u64 = 100;
 
 /// Writes a number at a place, where there is such a place.
-fn put(numbers: &mut [usize], place: usize, number: usize) {
+fn put(numbers: &mut [usize], place: usize, number: usize)
+    ensures written { place < length numbers.old → numbers.new ≡ slice_set numbers.old place number }
+    ensures kept { length numbers.old ≤ place → numbers.new ≡ numbers.old }
+{
     if place < numbers.len() {
         numbers[place] = number;
     }
@@ -53,7 +56,9 @@ fn put(numbers: &mut [usize], place: usize, number: usize) {
 
 impl Order {
     /// All variables wait, from the first to the last.
-    pub fn new(alloc: Global, variables: u32) -> Result<Order, Memory> {
+    pub fn new(alloc: Global, variables: u32) -> Result<Order, Memory>
+        ensures { IfOk result (λ o. o.count ≡ variables) }
+    {
         let count = variables as usize;
         let mut heap = Vec::with_capacity(alloc, count)?;
         let mut places = Vec::with_capacity(alloc, count)?;
@@ -86,7 +91,10 @@ impl Order {
     }
 
     /// The score of the variable at a place of the heap.
-    fn score_at(&self, place: usize) -> u64 {
+    fn score_at(&self, place: usize) -> u64
+        ensures { place < length self.now.heap.items → slice_index self.now.heap.items place < length self.now.scores.items
+            → result ≡ slice_index self.now.scores.items (slice_index self.now.heap.items place) }
+    {
         if place >= self.heap.len() {
             return 0;
         }
@@ -156,7 +164,9 @@ impl Order {
     }
 
     /// Takes out the variable of the greatest score.
-    pub fn pop(&mut self) -> Option<u32> {
+    pub fn pop(&mut self) -> Option<u32>
+        ensures { self.new.count ≤ self.old.count }
+    {
         if self.count == 0 || self.count > self.heap.len() {
             return None;
         }
@@ -169,7 +179,9 @@ impl Order {
     }
 
     /// Lets a variable wait, if it does not.
-    fn insert(&mut self, variable: u32) {
+    fn insert(&mut self, variable: u32)
+        ensures { self.old.count ≤ self.new.count }
+    {
         let at = variable as usize;
         if at < self.places.len() && self.places[at] == 0 && self.count < self.heap.len() {
             self.heap[self.count] = variable;
@@ -180,7 +192,9 @@ impl Order {
     }
 
     /// A literal is true no more: its variable waits again, and the sign is kept.
-    pub fn release(&mut self, lit: Lit) {
+    pub fn release(&mut self, lit: Lit)
+        ensures { self.old.count ≤ self.new.count }
+    {
         let at = lit.0 as usize / 2;
         if at < self.negated.len() {
             self.negated[at] = lit.0 % 2 == 1;
@@ -201,7 +215,9 @@ impl Order {
     }
 
     /// Moves a variable up to where it belongs, if it waits.
-    fn lift(&mut self, variable: u32) {
+    fn lift(&mut self, variable: u32)
+        ensures { self.new.count ≡ self.old.count }
+    {
         let at = variable as usize;
         if at < self.places.len() {
             let place = self.places[at];
@@ -212,7 +228,9 @@ impl Order {
     }
 
     /// Raises the score of a variable, once for each conflict.
-    pub fn raise(&mut self, variable: u32) {
+    pub fn raise(&mut self, variable: u32)
+        ensures { self.new.count ≡ self.old.count }
+    {
         let at = variable as usize;
         if at < self.stamps.len() && at < self.scores.len() && self.stamps[at] != self.conflict {
             self.stamps[at] = self.conflict;
@@ -224,7 +242,9 @@ impl Order {
     }
 
     /// Scales all scores down.
-    fn scale(&mut self) {
+    fn scale(&mut self)
+        ensures { self.new.count ≡ self.old.count }
+    {
         for score in &mut self.scores {
             *score /= SCALE;
         }
@@ -232,7 +252,9 @@ impl Order {
     }
 
     /// Ends a conflict: the next one counts more. Answers whether a restart is due.
-    pub fn end_conflict(&mut self) -> bool {
+    pub fn end_conflict(&mut self) -> bool
+        ensures { self.new.count ≡ self.old.count }
+    {
         self.conflict = self.conflict.wrapping_add(1);
         self.step = self.step.saturating_add(self.step / 19);
         if self.step > LAST_STEP {
