@@ -253,10 +253,12 @@ impl Inner {
         let mut at = self.store.lasts[lit.0 as usize] as usize;
         while at > 0 {
             let owner = self.store.owners[at - 1] as usize;
+            // Read before the look, so that the processor fetches the next place meanwhile.
+            let next = self.store.next[at - 1] as usize;
             if self.look(owner) {
                 return Some(owner);
             }
-            at = self.store.next[at - 1] as usize;
+            at = next;
         }
         None
     }

@@ -1,4 +1,4 @@
-use Rattle.std.proofs.Common.{◌≡◌, ◌-◌}
+use Rattle.std.proofs.Common.{◌≡◌}
 use Rattle.lz_solve.proofs.order.Order.rise.Given as goal
 
 abbrev pub invariant-loop-at : goal.invariant-loop-at
