@@ -458,3 +458,27 @@ free_of t s lit is free = subst (λ (xs : List Lit). IsUnassigned xs lit) (order
 
 pub quiet_of : (t : Inner) (s : TrailState) → state_of t ≡ s → IsQuiet (literals s.set) s.clauses → IsQuiet t.table.order.items (clauses_of t.store)
 quiet_of t s is quiet = subst (λ (xs : List Lit). IsQuiet xs (clauses_of t.store)) (order_is t) (subst (λ (s : TrailState). IsQuiet (literals s.set) s.clauses) (sym is) quiet)
+
+-- ---- what is noted of clauses
+
+-- it changes nothing that holds
+pub noted_kept : (t u : Inner) → u ≡ record t { pairs = u.pairs } → IsKept t → IsKept u
+noted_kept t u is kept =
+    let same : IsKept (record t { pairs = u.pairs }) = record {
+      trail = kept.trail;
+      store = kept.store;
+      lasts_long = kept.lasts_long;
+      table = kept.table;
+      starts = kept.starts;
+      settled = kept.settled;
+      head_within = kept.head_within;
+      seen_within = kept.seen_within;
+      few = kept.few;
+      order_room = kept.order_room;
+      starts_room = kept.starts_room;
+    } in
+    subst IsKept (sym is) same
+
+pub noted_further : (t u : Inner) → u ≡ record t { pairs = u.pairs } → IsFurther t u
+noted_further t u is =
+    further_same t u (ap (λ x. state_of x) is) (ap (λ x. x.store) is) (ap (λ x. x.spent) is) (ap (λ x. x.table) is)

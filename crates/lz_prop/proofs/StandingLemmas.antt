@@ -60,3 +60,16 @@ two_left truths clause i d first lt not_false differ left =
       one_left = left.not_false;
       other_left = not_false;
     }
+
+-- two places whose literals differ and are not false
+pub pair_left : (truths : List ℕ) (clause : List Lit) (i j : ℕ) (d : Lit) → i < length clause → j < length clause → ((get_or clause i d).0 ≡ (get_or clause j d).0 → ⊥)
+    → (IsMarkedFalse truths (get_or clause i d) → ⊥) → (IsMarkedFalse truths (get_or clause j d) → ⊥) → AreTwoLeft truths clause
+pair_left truths clause i j d one_in other_in differ one_left other_left = record {
+  one = get_or clause i d;
+  other = get_or clause j d;
+  differ = λ same. differ (ap (λ (l : Lit). l.0) same);
+  has_one = Contains-get_or clause i d one_in;
+  has_other = Contains-get_or clause j d other_in;
+  one_left = one_left;
+  other_left = other_left;
+}

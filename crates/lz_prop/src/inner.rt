@@ -1,4 +1,4 @@
-ghost use Rattle.std.specs.Prelude.{◌≡◌, ℕ, suc, ◌+◌, ◌*◌, ◌<◌, ◌≤◌, [], ◌∷◌, ◌++◌, length, List, slice_index_or, IsTrue, IsErr, IfOk, OnOk, OnErr};
+ghost use Rattle.std.specs.Prelude.{◌≡◌, ℕ, suc, ◌+◌, ◌*◌, ◌<◌, ◌≤◌, false, [], ◌∷◌, ◌++◌, length, List, slice_index_or, IsTrue, IsErr, IfOk, OnOk, OnErr};
 ghost use Rattle.std.specs.List.{All};
 ghost use Rattle.lz_cnf.specs.declared.clause.Lit.{Lit};
 ghost use Rattle.lz_cnf.specs.Models.{variable_of, negated, IsFormula, NoneEmpty};
@@ -9,12 +9,16 @@ ghost use Rattle.lz_prop.specs.Kept.{IsKept, state_of};
 ghost use Rattle.lz_prop.specs.Standing.{Stands};
 ghost use Rattle.lz_prop.specs.Further.{IsFurther, IsLooked, IsLookedThrough, IsVisited, IsHandled, IsPropagated};
 
+use crate::pair::{Pair, find_pair, shows_open};
 use crate::status::{Status, status_of};
 use crate::store::Store;
 use crate::table::Table;
 use lz_base::Memory;
 use lz_cnf::{Cnf, Lit};
 use std::alloc::Global;
+
+/// Nothing was noted.
+const NO_PAIR: Pair = Pair { one: 0, other: 0 };
 
 /// The parts of a trail.
 #[derive(Drop)]
@@ -31,6 +35,8 @@ pub struct Inner {
     pub seen: usize,
     /// Whether memory was wanting.
     pub spent: bool,
+    /// For each clause, as far as there was memory, what was last found to keep it open. It only saves time.
+    pub pairs: Vec<Pair>,
 }
 
 /// The store of a formula's clauses.
@@ -61,6 +67,7 @@ impl Inner {
         let store = store_of(alloc, formula)?;
         let table = Table::new(alloc, formula.variables)?;
         let starts = Vec::with_capacity(alloc, formula.variables as usize)?;
+        let pairs = Vec::from_elem(alloc, NO_PAIR, formula.clauses.items().len())?;
         Ok(Inner {
             variables: formula.variables,
             store,
@@ -69,6 +76,7 @@ impl Inner {
             head: 0,
             seen: 0,
             spent: false,
+            pairs,
         })
     }
 
@@ -118,8 +126,84 @@ impl Inner {
         status_of(self.store.clause(at), &self.table.truths)
     }
 
+    /// Notes what keeps a clause open, if there is a place for it.
+    fn note(&mut self, at: usize, pair: Pair)
+        requires kept { IsKept self.old }
+        ensures kept { IsKept self.new }
+        ensures further { IsFurther self.old self.new }
+        ensures order { self.new.table.order.items ≡ self.old.table.order.items }
+        ensures head { self.new.head ≡ self.old.head }
+        ensures seen { self.new.seen ≡ self.old.seen }
+    {
+        if at < self.pairs.len() {
+            self.pairs[at] = pair;
+        }
+    }
+
+    /// Whether two places of a clause, counted from 0, show that it is neither unit nor false.
+    fn shows(&self, at: usize, pair: Pair) -> bool
+        requires kept { IsKept self.now }
+        requires within { at < length (clauses_of self.now.store) }
+        ensures { IsTrue result → IsLooked self.now at false }
+    {
+        shows_open(self.store.clause(at), &self.table.truths, pair)
+    }
+
+    /// What keeps a clause open, counted from 0, if it is open.
+    fn find(&self, at: usize) -> Pair
+        requires kept { IsKept self.now }
+        requires within { at < length (clauses_of self.now.store) }
+    {
+        find_pair(self.store.clause(at), &self.table.truths)
+    }
+
+    /// What was noted of a clause.
+    fn noted(&self, at: usize) -> Pair {
+        if at < self.pairs.len() {
+            self.pairs[at]
+        } else {
+            NO_PAIR
+        }
+    }
+
+    /// Whether a clause, counted from 0, is neither unit nor false: by what was noted, or else by a search through it,
+    /// which is noted.
+    fn is_open(&mut self, at: usize) -> bool
+        requires kept { IsKept self.old }
+        requires within { at < length (clauses_of self.old.store) }
+        ensures kept { IsKept self.new }
+        ensures further { IsFurther self.old self.new }
+        ensures head { self.new.head ≡ self.old.head }
+        ensures seen { self.new.seen ≡ self.old.seen }
+        ensures looked { IsTrue result → IsLooked self.new at false }
+    {
+        let noted = self.noted(at);
+        if self.shows(at, noted) {
+            return true;
+        }
+        let found = self.find(at);
+        self.note(at, found);
+        self.shows(at, found)
+    }
+
     /// Looks at a clause, counted from 0, and sets the literal that it leaves. Answers whether the clause is false.
     fn look(&mut self, at: usize) -> bool
+        requires kept { IsKept self.old }
+        requires within { at < length (clauses_of self.old.store) }
+        ensures kept { IsKept self.new }
+        ensures further { IsFurther self.old self.new }
+        ensures head { self.new.head ≡ self.old.head }
+        ensures seen { self.new.seen ≡ self.old.seen }
+        ensures looked { IsLooked self.new at result }
+    {
+        if self.is_open(at) {
+            return false;
+        }
+        self.settle(at)
+    }
+
+    /// Goes through a clause, counted from 0, and sets the literal that it leaves. Answers whether the clause is false.
+    fn settle(&mut self, at: usize) -> bool
         requires kept { IsKept self.old }
         requires within { at < length (clauses_of self.old.store) }
         ensures kept { IsKept self.new }
@@ -169,10 +253,12 @@ impl Inner {
         let mut at = self.store.lasts[lit.0 as usize] as usize;
         while at > 0 {
             let owner = self.store.owners[at - 1] as usize;
+            // Read before the look, so that the processor fetches the next place meanwhile.
+            let next = self.store.next[at - 1] as usize;
             if self.look(owner) {
                 return Some(owner);
             }
-            at = self.store.next[at - 1] as usize;
+            at = next;
         }
         None
     }
@@ -238,8 +324,41 @@ impl Inner {
         }
     }
 
+    /// Makes a place for what will be noted of one more clause. For want of memory there is none.
+    fn widen(&mut self)
+        requires kept { IsKept self.old }
+        ensures kept { IsKept self.new }
+        ensures variables { self.new.variables ≡ self.old.variables }
+        ensures store { self.new.store ≡ self.old.store }
+        ensures table { self.new.table ≡ self.old.table }
+        ensures starts { self.new.starts ≡ self.old.starts }
+        ensures spent { self.new.spent ≡ self.old.spent }
+        ensures state { state_of self.new ≡ state_of self.old }
+    {
+        match self.pairs.push(NO_PAIR) {
+            Ok(()) => {}
+            Err(_) => {}
+        }
+    }
+
     /// Keeps a clause, and answers its number. For want of memory nothing else changes, but memory was wanting.
     pub fn add(&mut self, clause: &[Lit]) -> Result<u32, Memory>
+        requires kept { IsKept self.old }
+        requires variables { All (λ l. variable_of l < self.old.variables) clause.now }
+        requires not_empty { 0 < length clause.now }
+        requires open { WasOpen (state_of self.old) (length self.old.starts.items) clause.now }
+        ensures kept { IsKept self.new }
+        ensures number { IfOk result (λ number. number ≡ length (clauses_of self.new.store)) }
+        ensures ok { OnOk result (state_of self.new ≡ with_clause (state_of self.old) clause.now) }
+        ensures err { OnErr result (state_of self.new ≡ given_up (state_of self.old)) }
+        ensures spent { IsTrue self.old.spent → IsErr result }
+    {
+        self.widen();
+        self.keep(clause)
+    }
+
+    /// Keeps a clause, and answers its number. For want of memory nothing else changes, but memory was wanting.
+    fn keep(&mut self, clause: &[Lit]) -> Result<u32, Memory>
         requires kept { IsKept self.old }
         requires variables { All (λ l. variable_of l < self.old.variables) clause.now }
         requires not_empty { 0 < length clause.now }

@@ -2,6 +2,7 @@
 #![tactic(auto)]
 
 mod inner;
+mod pair;
 mod status;
 mod store;
 mod table;

@@ -2,7 +2,7 @@
 use Rattle.std.proofs.Common.{◌≡◌, ◌≢◌, ℕ, zero, suc, ◌+◌, ◌-◌, ◌*◌, ◌<◌, ◌≤◌, inl, inr, ⊎_elim, Bool, true, false, cond, eqb, List, [], ◌∷◌, ◌++◌, length, get_or, take, map, Option, Some, None, slice_get, refl, sym, ◌∙◌, ap, subst, arith}
 use Rattle.std.specs.List.{All, Any, Contains}
 use Rattle.std.proofs.lemmas.Bool.{cases_lt, eq-eqb}
-use Rattle.std.proofs.lemmas.List.{length-append, append-nil, get_or_append_left, get_or_push, take-append-le}
+use Rattle.std.proofs.lemmas.List.{length-append, length-map, append-nil, get_or_append_left, get_or_push, take-append-le}
 use Rattle.std.proofs.Math.Seq.{take-append_seam}
 use Rattle.std.proofs.lemmas.List.Elements.{All-push, Contains-push}
 use Rattle.lz_cnf.specs.declared.clause.Lit.{Lit}
@@ -25,19 +25,6 @@ use Rattle.lz_solve.proofs.TernaryLemmas.{steps_fewer}
 
 -- ---- entries
 
-value_at : (first : Entry) (more set : List Entry) (v : ℕ) (value b : Bool) → eqb (variable_of first.lit) v ≡ b → value_in (cond b (Some first) (entry_of set v)) ≡ Some value
-    → (value_in (entry_of set v) ≡ Some value → value_in (entry_of (set ++ more) v) ≡ Some value) → value_in (cond b (Some first) (entry_of (set ++ more) v)) ≡ Some value
-value_at first more set v value true same is rest = is
-value_at first more set v value false same is rest = rest is
-
--- a value stays where entries are added
-value_more : (set more : List Entry) (v : ℕ) (value : Bool) → value_in (entry_of set v) ≡ Some value → value_in (entry_of (set ++ more) v) ≡ Some value
-value_more [] more v value is = absurd cc
-value_more (first ∷ set) more v value is = value_at first more set v value (eqb (variable_of first.lit) v) refl is (value_more set more v value)
-
-pub assigned_more : (set more : List Entry) (count : ℕ) → AreAssigned set count → AreAssigned (set ++ more) count
-assigned_more set more count are v lt = let is = are v lt in (is.0, value_more set more v is.0 is.1)
-
 none_at : (first : Entry) (set : List Entry) (v : ℕ) (b : Bool) → eqb (variable_of first.lit) v ≡ b → value_in (cond b (Some first) (entry_of set v)) ≡ None
     → (variable_of first.lit ≡ v → ⊥) × (value_in (entry_of set v) ≡ None)
 none_at first set v true same is = absurd cc
@@ -54,6 +41,10 @@ free_literal set lit is = (
   λ h. let source = Contains-from_map (λ (e : Entry). e.lit) set lit h in none_has set (variable_of lit) is source.0 source.1 (ap variable_of source.2),
   λ h. let source = Contains-from_map (λ (e : Entry). e.lit) set (negated lit) h in none_has set (variable_of lit) is source.0 source.1 (ap variable_of source.2 ∙ variable_of-negated lit),
 )
+
+-- so many clauses are kept
+pub kept_count : (formula : Cnf) (conflicts : ℕ) (s : TrailState) (log : List LogStep) → IsSearch formula conflicts s log → length formula.clauses + length log ≡ length s.clauses
+kept_count formula conflicts s log search = sym (ap length search.clauses ∙ length-append formula.clauses (map (λ (step : LogStep). step.clause) log) ∙ ap (λ (n : ℕ). length formula.clauses + n) (length-map log (λ (step : LogStep). step.clause)))
 
 -- ---- steps
 
@@ -113,7 +104,7 @@ spent formula conflicts log steps exact positive = record {
 }
 
 -- the search goes on with one clause more
-pub next_learnt : (formula : Cnf) (conflicts : ℕ) (s t : TrailState) (log new : List LogStep) → IsSearch formula conflicts s log → IsLearntInto s log t new false → (length new ≡ conflicts → ⊥) → IsNext formula conflicts s log t new 0
+pub next_learnt : (formula : Cnf) (conflicts : ℕ) (s t : TrailState) (log new : List LogStep) → IsSearch formula conflicts s log → IsLearntInto s log t new false → (length new ≡ conflicts → ⊥) → IsNext formula conflicts s log t new
 next_learnt formula conflicts s t log new search (step, is, not_empty, is_new, trail, variables, clauses) more =
     let longer = log_longer s log new step is in
     let left = search.left in
@@ -126,7 +117,6 @@ next_learnt formula conflicts s t log new search (step, is, not_empty, is_new, t
         steps = steps_more formula conflicts s t log new search (step, is, not_empty, is_new, trail, variables, clauses);
         left = omega (arith, more);
       };
-      assigned = λ v lt. absurd (omega arith);
       moves = inr (omega arith);
     }
 
@@ -142,11 +132,8 @@ extended formula conflicts s t log search more trail = record {
   left = search.left;
 }
 
-pub extended_assigned : (s t : TrailState) (count : ℕ) → Extends s t → AreAssigned s.set count → AreAssigned t.set count
-extended_assigned s t count more are = subst (λ (set : List Entry). AreAssigned set count) (sym more.set) (assigned_more s.set more.added count are)
-
-pub next_decided : (formula : Cnf) (conflicts : ℕ) (s t : TrailState) (log : List LogStep) (lit : Lit) (from : ℕ) → IsSearch formula conflicts s log → t ≡ decided s lit → IsTrail t → AreAssigned s.set from → IsNext formula conflicts s log t log from
-next_decided formula conflicts s t log lit from search is trail are =
+pub next_decided : (formula : Cnf) (conflicts : ℕ) (s t : TrailState) (log : List LogStep) (lit : Lit) → IsSearch formula conflicts s log → t ≡ decided s lit → IsTrail t → IsNext formula conflicts s log t log
+next_decided formula conflicts s t log lit search is trail =
     let e : Entry = record { lit = lit; level = suc s.level; reason = None } in
     let set : t.set ≡ s.set ++ e ∷ [] = ap (λ (x : TrailState). x.set) is in
     let long = ap length set ∙ length-append s.set (e ∷ []) in
@@ -159,17 +146,15 @@ next_decided formula conflicts s t log lit from search is trail are =
         steps = search.steps;
         left = search.left;
       };
-      assigned = subst (λ (xs : List Entry). AreAssigned xs from) (sym set) (assigned_more s.set (e ∷ []) from are);
       moves = inl (refl, omega arith);
     }
 
 -- what propagation set counts to the turn
-pub next_after : (formula : Cnf) (conflicts : ℕ) (s t u : TrailState) (log new : List LogStep) (from : ℕ) → Extends s t → IsNext formula conflicts t log u new from → IsNext formula conflicts s log u new from
-next_after formula conflicts s t u log new from more next =
+pub next_after : (formula : Cnf) (conflicts : ℕ) (s t u : TrailState) (log new : List LogStep) → Extends s t → IsNext formula conflicts t log u new → IsNext formula conflicts s log u new
+next_after formula conflicts s t u log new more next =
     let long = ap length more.set ∙ length-append s.set more.added in
     record {
       search = next.search;
-      assigned = next.assigned;
       moves = ⊎_elim (λ kept. inl (kept.0, (let lt = kept.1 in omega arith))) (λ longer. inr longer) next.moves;
     }
 
@@ -204,9 +189,9 @@ found formula conflicts s log values search quiet are whole told =
 abbrev pub left_of : ℕ → ℕ → ℕ → ℕ → ℕ
 left_of conflicts variables log set = (conflicts - log) * (variables + 1) + (variables - set)
 
-pub turn_smaller : (formula : Cnf) (conflicts : ℕ) (s t : TrailState) (log new : List LogStep) (from : ℕ) → IsSearch formula conflicts s log → IsNext formula conflicts s log t new from
+pub turn_smaller : (formula : Cnf) (conflicts : ℕ) (s t : TrailState) (log new : List LogStep) → IsSearch formula conflicts s log → IsNext formula conflicts s log t new
     → left_of conflicts formula.variables (length new) (length t.set) < left_of conflicts formula.variables (length log) (length s.set)
-turn_smaller formula conflicts s t log new from search next =
+turn_smaller formula conflicts s t log new search next =
     ⊎_elim
     (λ kept.
     let fits = entries_fit t.set t.variables next.search.trail.known next.search.trail.apart in

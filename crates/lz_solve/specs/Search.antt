@@ -32,7 +32,7 @@ IsLearntInto s log t new false =
     (step : LogStep) × IsStepOf s log new step × (step.clause ≢ []) × IsNewClause s.clauses step.clause
     × IsTrail t × (t.variables ≡ s.variables) × (t.clauses ≡ s.clauses ++ step.clause ∷ [])
 
--- the first variable without a value, or none
-abbrev pub IsFirstFree : List Entry → ℕ → Option ℕ → Type 0
-IsFirstFree set count None = AreAssigned set count
-IsFirstFree set count (Some v) = (v < count) × (value_in (entry_of set v) ≡ None) × AreAssigned set v
+-- a variable without a value, or none where all have values
+abbrev pub IsFree : List Entry → ℕ → Option ℕ → Type 0
+IsFree set count None = AreAssigned set count
+IsFree set count (Some v) = (v < count) × (value_in (entry_of set v) ≡ None)

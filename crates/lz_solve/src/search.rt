@@ -4,11 +4,13 @@ ghost use Rattle.lz_cnf.specs.Partial.{IsQuiet};
 ghost use Rattle.lz_prop.specs.Trail.{IsFalseNamed, literals, entry_of, value_in};
 ghost use Rattle.lz_solve.specs.Solving.{IsSolved};
 ghost use Rattle.lz_solve.specs.Turns.{IsTurn};
-ghost use Rattle.lz_solve.specs.Search.{AreAssigned, IsFirstFree, IsSearch, IsLearntInto};
+ghost use Rattle.lz_solve.specs.Search.{AreAssigned, IsSearch, IsLearntInto};
 
+use crate::choice::{choose, end_conflict, go_back, raise_hints};
+use crate::order::Order;
 use lz_analyze::learn;
 use lz_base::{Memory, Sequence};
-use lz_cnf::{Assignment, Cnf, Lit};
+use lz_cnf::{Assignment, Cnf};
 use lz_log::{Log, LogStep};
 use lz_prop::{Propagated, Trail};
 use std::alloc::Global;
@@ -37,22 +39,6 @@ enum Turn {
     Over,
 }
 
-/// The first variable from this one on that has no value.
-fn unassigned_from(trail: &Trail, from: u32, variables: u32) -> Option<u32>
-    requires variables { variables ≡ trail.now.variables }
-    requires from { from ≤ variables }
-    requires assigned { AreAssigned trail.now.set from }
-    ensures { IsFirstFree trail.now.set variables result }
-{
-    for variable in from..variables {
-        match trail.value(variable) {
-            Some(_) => {}
-            None => return Some(variable),
-        }
-    }
-    None
-}
-
 /// The values of all variables.
 fn values_of(alloc: Global, trail: &Trail, variables: u32) -> Result<Assignment, Memory>
     requires variables { variables ≡ trail.now.variables }
@@ -71,9 +57,19 @@ fn values_of(alloc: Global, trail: &Trail, variables: u32) -> Result<Assignment,
 }
 
 /// Learns from a false clause, and answers whether the clause that follows is the empty one. Else it is kept once the
-/// trail has gone back.
-fn learn_from(alloc: Global, trail: &mut Trail, log: &mut Log, clause: u32) -> Result<bool, Memory>
-    requires { IsFalseNamed trail.old clause }
+/// trail has gone back, and the scores of the variables of all clauses that it rests on rise.
+fn learn_from(
+    alloc: Global,
+    order: &mut Order,
+    trail: &mut Trail,
+    log: &mut Log,
+    clause: u32,
+    variables: u32,
+    count: usize,
+) -> Result<bool, Memory>
+    requires conflict { IsFalseNamed trail.old clause }
+    requires variables { variables ≡ trail.old.variables }
+    requires count { count ≡ length trail.old.clauses }
     ensures { IfOk result (λ refuted. IsLearntInto trail.old log.old trail.new log.new refuted) }
 {
     let learnt = learn(alloc, trail, clause)?;
@@ -84,12 +80,14 @@ fn learn_from(alloc: Global, trail: &mut Trail, log: &mut Log, clause: u32) -> R
         })?;
         return Ok(true);
     }
-    trail.back(learnt.level);
+    raise_hints(order, trail, learnt.hints.items(), count);
+    go_back(order, trail, learnt.level, variables);
     trail.add(learnt.clause.items())?;
     log.push(LogStep {
         clause: learnt.clause,
         hints: learnt.hints,
     })?;
+    end_conflict(order, trail, variables);
     Ok(false)
 }
 
@@ -98,15 +96,18 @@ fn turn_at_conflict(
     alloc: Global,
     formula: &Cnf,
     conflicts: u64,
+    order: &mut Order,
     trail: &mut Trail,
     log: &mut Log,
     clause: u32,
 ) -> Result<Turn, Memory>
     requires search { IsSearch formula.now conflicts trail.old log.old }
     requires conflict { IsFalseNamed trail.old clause }
-    ensures { IfOk result (λ turn. IsTurn formula.now conflicts trail.old log.old trail.new log.new 0 turn) }
+    requires room { length formula.now.clauses + conflicts < 2 ^ 32 }
+    ensures { IfOk result (λ turn. IsTurn formula.now conflicts trail.old log.old trail.new log.new turn) }
 {
-    if learn_from(alloc, trail, log, clause)? {
+    let count = formula.clauses.items().len() + log.items().len();
+    if learn_from(alloc, order, trail, log, clause, formula.variables, count)? {
         return Ok(Turn::Refuted);
     }
     if log.items().len() as u64 == conflicts {
@@ -120,50 +121,44 @@ fn turn_at_quiet(
     alloc: Global,
     formula: &Cnf,
     conflicts: u64,
+    order: &mut Order,
     trail: &mut Trail,
     log: &Log,
-    from: u32,
-) -> Result<(Turn, u32), Memory>
+) -> Result<Turn, Memory>
     requires search { IsSearch formula.now conflicts trail.old log.now }
     requires quiet { IsQuiet (literals trail.old.set) trail.old.clauses }
-    requires from { from ≤ formula.now.variables }
-    requires assigned { AreAssigned trail.old.set from }
-    ensures turn { IfOk result (λ r. IsTurn formula.now conflicts trail.old log.now trail.new log.now r.1 r.0) }
-    ensures from { IfOk result (λ r. r.1 ≤ formula.now.variables) }
+    ensures { IfOk result (λ turn. IsTurn formula.now conflicts trail.old log.now trail.new log.now turn) }
 {
-    match unassigned_from(trail, from, formula.variables) {
+    match choose(order, trail, formula.variables) {
         Some(variable) => {
-            trail.decide(Lit(2 * variable + 1));
-            Ok((Turn::Next, variable))
+            trail.decide(order.literal_of(variable));
+            Ok(Turn::Next)
         }
         None => {
             let values = values_of(alloc, trail, formula.variables)?;
-            Ok((Turn::Found(values), from))
+            Ok(Turn::Found(values))
         }
     }
 }
 
-/// One turn: propagates, then learns or decides. Answers with the variable from which the next one is sought.
+/// One turn: propagates, then learns or decides.
 fn take_turn(
     alloc: Global,
     formula: &Cnf,
     conflicts: u64,
+    order: &mut Order,
     trail: &mut Trail,
     log: &mut Log,
-    from: u32,
-) -> Result<(Turn, u32), Memory>
+) -> Result<Turn, Memory>
     requires search { IsSearch formula.now conflicts trail.old log.old }
-    requires from { from ≤ formula.now.variables }
-    requires assigned { AreAssigned trail.old.set from }
-    ensures turn { IfOk result (λ r. IsTurn formula.now conflicts trail.old log.old trail.new log.new r.1 r.0) }
-    ensures from { IfOk result (λ r. r.1 ≤ formula.now.variables) }
+    requires room { length formula.now.clauses + conflicts < 2 ^ 32 }
+    ensures { IfOk result (λ turn. IsTurn formula.now conflicts trail.old log.old trail.new log.new turn) }
 {
     match trail.propagate()? {
-        Propagated::Conflict { clause } => Ok((
-            turn_at_conflict(alloc, formula, conflicts, trail, log, clause)?,
-            0,
-        )),
-        Propagated::Quiet => turn_at_quiet(alloc, formula, conflicts, trail, log, from),
+        Propagated::Conflict { clause } => {
+            turn_at_conflict(alloc, formula, conflicts, order, trail, log, clause)
+        }
+        Propagated::Quiet => turn_at_quiet(alloc, formula, conflicts, order, trail, log),
     }
 }
 
@@ -177,11 +172,10 @@ pub fn solve(alloc: Global, formula: &Cnf, conflicts: u64) -> Result<Solved, Mem
     ensures { IfOk result (λ s. IsSolved formula.now conflicts s) }
 {
     let mut trail = Trail::new(alloc, formula)?;
+    let mut order = Order::new(alloc, formula.variables)?;
     let mut log = Sequence::new(alloc);
-    let mut from = 0;
     loop {
-        let (turn, next) = take_turn(alloc, formula, conflicts, &mut trail, &mut log, from)?;
-        from = next;
+        let turn = take_turn(alloc, formula, conflicts, &mut order, &mut trail, &mut log)?;
         match turn {
             Turn::Next => {}
             Turn::Found(values) => return Ok(Solved::Sat(values)),

@@ -19,6 +19,6 @@ add-requires-clause-open c =
     let s = c.args.trail.now in
     let learnt = c.in_ok-learnt.learnt in
     let positive = above s learnt.clause c.items.result.now learnt.hints learnt.level c.in_ok-learnt.ensures c.items.ensures c.if-is_empty.ensures in
-    subst (λ (t : TrailState). WasOpen t t.level c.items-2.result.now) (sym c.back.ensures.back)
-    (subst (WasOpen (gone_back s learnt.level) learnt.level) (sym c.items-2.ensures)
+    subst (λ (t : TrailState). WasOpen t t.level c.items-3.result.now) (sym c.go_back.ensures.back)
+    (subst (WasOpen (gone_back s learnt.level) learnt.level) (sym c.items-3.ensures)
     (open_after_back s learnt.level learnt.clause (c.in_ok-learnt.ensures.open_ positive)))

@@ -5,5 +5,5 @@ use Rattle.lz_solve.proofs.search.solve.Goals as goal
 
 pub loop-log-smaller : goal.loop-log-smaller
 loop-log-smaller c =
-    turn_smaller c.args.formula.now c.args.conflicts c.loop-log.trail c.take_turn.new.trail c.loop-log.log c.take_turn.new.log c.in_ok-turn.next c.loop-log.invariant.0
-    (subst (IsTurn c.args.formula.now c.args.conflicts c.loop-log.trail c.loop-log.log c.take_turn.new.trail c.take_turn.new.log c.in_ok-turn.next) c.in-Next.is c.in_ok-turn.ensures.turn)
+    turn_smaller c.args.formula.now c.args.conflicts c.loop-log.trail c.take_turn.new.trail c.loop-log.log c.take_turn.new.log c.loop-log.invariant
+    (subst (IsTurn c.args.formula.now c.args.conflicts c.loop-log.trail c.loop-log.log c.take_turn.new.trail c.take_turn.new.log) c.in-Next.is c.in_ok-turn.ensures)

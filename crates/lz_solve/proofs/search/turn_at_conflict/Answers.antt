@@ -12,7 +12,7 @@ pub returns-then-items-conflicts : goal.returns-then-items-conflicts
 returns-then-items-conflicts c =
     let into = subst (IsLearntInto c.args.trail.now c.args.log.now c.learn_from.new.trail c.learn_from.new.log) c.if-branch.false c.in_ok-learn_from.ensures in
     let left = c.requires.search.left in
-    let same = ap length c.items.ensures in
+    let same = ap length c.items-3.ensures in
     let all = c.if-items-conflicts.true in
     spent c.args.formula.now c.args.conflicts c.learn_from.new.log
     (steps_more c.args.formula.now c.args.conflicts c.args.trail.now c.learn_from.new.trail c.args.log.now c.learn_from.new.log c.requires.search into)
@@ -21,6 +21,6 @@ returns-then-items-conflicts c =
 pub returns : goal.returns
 returns c =
     let into = subst (IsLearntInto c.args.trail.now c.args.log.now c.learn_from.new.trail c.learn_from.new.log) c.if-branch.false c.in_ok-learn_from.ensures in
-    let same = ap length c.items.ensures in
+    let same = ap length c.items-3.ensures in
     next_learnt c.args.formula.now c.args.conflicts c.args.trail.now c.learn_from.new.trail c.args.log.now c.learn_from.new.log c.requires.search into
     (λ all. c.if-items-conflicts.false (same ∙ all))

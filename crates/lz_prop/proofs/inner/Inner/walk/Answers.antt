@@ -1,4 +1,4 @@
-use Rattle.std.proofs.Common.{◌≡◌, ℕ, ◌-◌, ◌<◌, length, get_or, sym, ◌∙◌, ap, subst, arith}
+use Rattle.std.proofs.Common.{◌≡◌, ℕ, ◌-◌, ◌<◌, length, get_or, sym, ◌∙◌, subst, arith}
 use Rattle.std.proofs.lemmas.List.{get_or_default}
 use Rattle.lz_prop.specs.Stored.{clauses_of}
 use Rattle.lz_prop.proofs.KeptLemmas.{further_join}
@@ -39,30 +39,10 @@ look-requires-clause-within c =
 pub index-requires-in-loop-at-2 : goal.index-requires-in-loop-at-2
 index-requires-in-loop-at-2 c =
     let t = c.loop-at.self in
-    let u = c.look.new.self in
-    let within = (visit_place c.args.self.now t c.args.lit c.loop-at.at c.loop-at.invariant c.loop-at-test.true).within in
-    let long = c.look.ensures.kept.store.linked.next_long in
-    let same = ap (λ s. length s.literals.items) c.look.ensures.further.store in
-    let n = u.store.next.ok.0 in
-    omega arith
-
--- what was read of the links
-owner_is : (c : goal.After-row_known-in-loop-at-2-1) → c.index-in-loop-at.result.now ≡ get_or c.loop-at.self.store.owners.items (c.loop-at.at - 1) 0
-owner_is c =
-    let t = c.loop-at.self in
-    let within = (visit_place c.args.self.now t c.args.lit c.loop-at.at c.loop-at.invariant c.loop-at-test.true).within in
-    let long = c.loop-at.invariant.kept.store.cut.owners_long in
-    c.index-in-loop-at.ensures ∙ get_or_default t.store.owners.items (c.loop-at.at - 1) c.index-in-loop-at.result.now 0 (omega arith)
-
-next_is : (c : goal.After-row_known-in-loop-at-2-1) → c.index-in-loop-at-2.result.now ≡ get_or c.loop-at.self.store.next.items (c.loop-at.at - 1) 0
-next_is c =
-    let t = c.loop-at.self in
-    let u = c.look.new.self in
     let within = (visit_place c.args.self.now t c.args.lit c.loop-at.at c.loop-at.invariant c.loop-at-test.true).within in
     let long = c.loop-at.invariant.kept.store.linked.next_long in
-    let same = ap (λ s. length s.next.items) c.look.ensures.further.store in
-    c.index-in-loop-at-2.ensures ∙ get_or_default u.store.next.items (c.loop-at.at - 1) c.index-in-loop-at-2.result.now 0 (omega arith)
-    ∙ ap (λ s. get_or s.next.items (c.loop-at.at - 1) 0) c.look.ensures.further.store
+    let n = t.store.next.ok.0 in
+    omega arith
 
 pub loop-at-smaller : goal.loop-at-smaller
 loop-at-smaller c =
@@ -70,7 +50,8 @@ loop-at-smaller c =
     let at = c.loop-at.at - 1 in
     let positive = c.loop-at-test.true in
     let within = (visit_place c.args.self.now t c.args.lit c.loop-at.at c.loop-at.invariant c.loop-at-test.true).within in
-    let is = next_is c in
+    let long = c.loop-at.invariant.kept.store.linked.next_long in
+    let is : c.index-in-loop-at-2.result.now ≡ get_or t.store.next.items at 0 = c.index-in-loop-at-2.ensures ∙ get_or_default t.store.next.items at c.index-in-loop-at-2.result.now 0 (omega arith) in
     let falls = c.loop-at.invariant.kept.store.linked.falls at within in
     omega arith
 
@@ -78,7 +59,13 @@ pub loop-at-preserved : goal.loop-at-preserved
 loop-at-preserved c =
     let t = c.loop-at.self in
     let u = c.look.new.self in
-    visit_more c.args.self.now t u c.args.lit c.loop-at.at c.index-in-loop-at.result.now c.index-in-loop-at-2.result.now c.loop-at.invariant c.loop-at-test.true (owner_is c) (next_is c)
+    let at = c.loop-at.at - 1 in
+    let within = (visit_place c.args.self.now t c.args.lit c.loop-at.at c.loop-at.invariant c.loop-at-test.true).within in
+    let next_long = c.loop-at.invariant.kept.store.linked.next_long in
+    let owners_long = c.loop-at.invariant.kept.store.cut.owners_long in
+    let owner_is : c.index-in-loop-at.result.now ≡ get_or t.store.owners.items at 0 = c.index-in-loop-at.ensures ∙ get_or_default t.store.owners.items at c.index-in-loop-at.result.now 0 (omega arith) in
+    let next_is : c.index-in-loop-at-2.result.now ≡ get_or t.store.next.items at 0 = c.index-in-loop-at-2.ensures ∙ get_or_default t.store.next.items at c.index-in-loop-at-2.result.now 0 (omega arith) in
+    visit_more c.args.self.now t u c.args.lit c.loop-at.at c.index-in-loop-at.result.now c.index-in-loop-at-2.result.now c.loop-at.invariant c.loop-at-test.true owner_is next_is
     c.look.ensures.kept c.look.ensures.further c.look.ensures.head c.look.ensures.seen
     (looked_open u c.index-in-loop-at.result.now c.look.result c.if-look.false c.look.ensures.looked)
 

@@ -1,7 +1,7 @@
 use Rattle.std.proofs.Common.{◌≡◌, ℕ, inl, inr, sym, ◌∙◌, ap, arith}
 use Rattle.std.proofs.lemmas.Bool.{cases_lt}
 use Rattle.lz_prop.specs.Trail.{entry_of, value_in}
-use Rattle.lz_solve.proofs.search.unassigned_from.Goals as goal
+use Rattle.lz_solve.proofs.choice.first_free.Goals as goal
 
 pub loop-variable-preserved : goal.loop-variable-preserved
 loop-variable-preserved c v lt =

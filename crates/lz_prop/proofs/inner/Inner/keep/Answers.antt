@@ -1,7 +1,7 @@
 use Rattle.std.proofs.Common.{arith}
 use Rattle.lz_prop.proofs.StoreLemmas.{length-cut}
 use Rattle.lz_prop.proofs.KeptLemmas.{added_kept}
-use Rattle.lz_prop.proofs.inner.Inner.add.Goals as goal
+use Rattle.lz_prop.proofs.inner.Inner.keep.Goals as goal
 
 pub overflow_cast-result : goal.overflow_cast-result
 overflow_cast-result c = let s = c.keep.new.self in let long = length-cut s.literals.items s.bounds.items in let few = c.keep.ensures.store.few in omega arith

@@ -1,5 +1,5 @@
 use Rattle.lz_solve.specs.Search.{AreAssigned}
-use Rattle.lz_solve.proofs.search.unassigned_from.Given as goal
+use Rattle.lz_solve.proofs.choice.first_free.Given as goal
 
 abbrev pub invariant-loop-variable : goal.invariant-loop-variable
 invariant-loop-variable l = AreAssigned l.trail.set l.variable

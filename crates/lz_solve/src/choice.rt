@@ -1,0 +1,127 @@
+ghost use Rattle.std.specs.Prelude.{◌≡◌, ℕ, ◌<◌, ◌≤◌, length, Some, IsTrue};
+ghost use Rattle.lz_prop.specs.Trail.{IsTrail, entry_of, level_in, gone_back};
+ghost use Rattle.lz_solve.specs.Search.{IsFree};
+
+use crate::order::Order;
+use lz_cnf::Lit;
+use lz_prop::Trail;
+
+/// Whether this is a variable, and has no value.
+fn is_free(trail: &Trail, variable: u32, variables: u32) -> bool
+    requires { variables ≡ trail.now.variables }
+    ensures { IsTrue result → IsFree trail.now.set variables (Some variable) }
+{
+    if variable >= variables {
+        return false;
+    }
+    match trail.value(variable) {
+        Some(_) => false,
+        None => true,
+    }
+}
+
+/// The first variable that has no value.
+fn first_free(trail: &Trail, variables: u32) -> Option<u32>
+    requires { variables ≡ trail.now.variables }
+    ensures { IsFree trail.now.set variables result }
+{
+    for variable in 0..variables {
+        match trail.value(variable) {
+            Some(_) => {}
+            None => return Some(variable),
+        }
+    }
+    None
+}
+
+/// A variable that has no value: the one of the greatest score, which the heap finds. None only where all have values.
+pub fn choose(order: &mut Order, trail: &Trail, variables: u32) -> Option<u32>
+    requires { variables ≡ trail.now.variables }
+    ensures { IsFree trail.now.set variables result }
+{
+    for _ in 0..order.len() {
+        if let Some(variable) = order.pop() {
+            if is_free(trail, variable, variables) {
+                return Some(variable);
+            }
+        }
+    }
+    first_free(trail, variables)
+}
+
+/// The level of a variable, or 0.
+fn level_from(trail: &Trail, variable: u32, variables: u32) -> u32
+    requires { variables ≡ trail.now.variables }
+    ensures { (own : ℕ) → level_in (entry_of trail.now.set variable) ≡ Some own → variable < variables → own ≡ result }
+{
+    if variable >= variables {
+        return 0;
+    }
+    match trail.level_of(variable) {
+        Some(level) => level,
+        None => 0,
+    }
+}
+
+/// The variables above a level wait again.
+fn release(order: &mut Order, trail: &Trail, level: u32, variables: u32)
+    requires { variables ≡ trail.now.variables }
+    ensures { order.old.count ≤ order.new.count }
+{
+    let lits = trail.order();
+    let mut left = lits.len();
+    while left > 0 {
+        left -= 1;
+        let lit = lits[left];
+        if level_from(trail, lit.0 / 2, variables) <= level {
+            return;
+        }
+        order.release(lit);
+    }
+}
+
+/// Goes back to a level, and lets the variables above it wait again.
+pub fn go_back(order: &mut Order, trail: &mut Trail, level: u32, variables: u32)
+    requires variables { variables ≡ trail.old.variables }
+    requires level { level ≤ trail.old.level }
+    ensures back { trail.new ≡ gone_back trail.old level }
+    ensures waiting { order.old.count ≤ order.new.count }
+    ensures trail { IsTrail trail.new }
+{
+    release(order, trail, level, variables);
+    trail.back(level);
+}
+
+/// Raises the scores of a clause's variables.
+fn raise_clause(order: &mut Order, clause: &[Lit])
+    ensures { order.new.count ≡ order.old.count }
+{
+    for lit in clause {
+        order.raise(lit.0 / 2);
+    }
+}
+
+/// Raises the scores of the variables of the clauses that the hints name.
+pub fn raise_hints(order: &mut Order, trail: &Trail, hints: &[u32], count: usize)
+    requires { count ≡ length trail.now.clauses }
+    ensures { order.new.count ≡ order.old.count }
+{
+    for hint in hints {
+        if *hint > 0 && *hint as usize <= count {
+            raise_clause(order, trail.clause(*hint));
+        }
+    }
+}
+
+/// Ends a conflict, and goes back to level 0 where a restart is due. The kept clauses stay.
+pub fn end_conflict(order: &mut Order, trail: &mut Trail, variables: u32)
+    requires { variables ≡ trail.old.variables }
+    ensures trail { IsTrail trail.new }
+    ensures variables { trail.new.variables ≡ trail.old.variables }
+    ensures clauses { trail.new.clauses ≡ trail.old.clauses }
+{
+    let level = trail.level();
+    if order.end_conflict() && level > 0 {
+        go_back(order, trail, 0, variables);
+    }
+}
