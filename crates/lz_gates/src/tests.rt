@@ -107,47 +107,34 @@ fn folded_choices(rt: HostRuntime) -> Result<(), Fail> {
     Ok(())
 }
 
-/// A choice with a constant side is a conjunction: one variable and three clauses, with the choice's values.
+/// A choice with a constant side is a conjunction, or the negation of one: one variable and three clauses.
 #[test]
 fn choices_with_a_constant_side(rt: HostRuntime) -> Result<(), Fail> {
-    // for each row: the number of the side that is constant, that constant's literal, and why
-    for (first, constant, reason) in [
-        (true, 0, "either of the two"),
-        (true, 1, "the second without the test"),
-        (false, 0, "the first, or not the test"),
-        (false, 1, "both"),
-    ] {
-        let (mut builder, test) = started(rt.alloc())?;
-        let open = builder.fresh().ok().ok_or("memory")?;
-        let side = if constant == 0 {
-            builder.truth()
-        } else {
-            builder.falsity()
-        };
-        let (yes, no) = if first { (side, open) } else { (open, side) };
-        let chosen = builder.choose_gate(test, yes, no).ok().ok_or("memory")?;
-        builder.require(&[chosen]).ok().ok_or("memory")?;
-        let formula = builder.finish();
-        assert_eq!(rt;
-            (formula.variables, formula.clauses.items().len()),
-            (4, 5),
-            "{reason}"
-        );
-        for x in VALUES {
-            for y in VALUES {
-                let constant = constant == 0;
-                let wanted = if first == x { constant } else { y };
-                for gate in VALUES {
-                    let mut model = Assignment::new(rt.alloc());
-                    for value in [true, x, y, gate] {
-                        model.push(value).ok().ok_or("memory")?;
-                    }
-                    let right = wanted && gate == (chosen.0 % 2 == 0);
-                    assert_eq!(rt; formula.satisfied_by(&model), right, "{reason}");
-                }
-            }
-        }
-    }
+    let (mut builder, test) = started(rt.alloc())?;
+    let on = builder.truth();
+    let off = builder.falsity();
+    let either = builder
+        .choose_gate(test, on, test.negated())
+        .ok()
+        .ok_or("memory")?;
+    let yes = builder.choose_gate(test, on, off).ok().ok_or("memory")?;
+    let no = builder.choose_gate(test, off, on).ok().ok_or("memory")?;
+    assert_eq!(rt; [either.0, yes.0, no.0], [on.0, test.0, test.negated().0]);
+    let formula = builder.finish();
+    assert_eq!(rt; (formula.variables, formula.clauses.items().len()), (2, 1));
+    Ok(())
+}
+
+/// Where the other side is open, it takes one variable and three clauses.
+#[test]
+fn conjunction_for_a_constant_side(rt: HostRuntime) -> Result<(), Fail> {
+    let (mut builder, test) = started(rt.alloc())?;
+    let off = builder.falsity();
+    let open = builder.fresh().ok().ok_or("memory")?;
+    let both = builder.choose_gate(test, open, off).ok().ok_or("memory")?;
+    assert_eq!(rt; both.0, 6);
+    let formula = builder.finish();
+    assert_eq!(rt; (formula.variables, formula.clauses.items().len()), (4, 4));
     Ok(())
 }
 
