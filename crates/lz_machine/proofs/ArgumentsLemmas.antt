@@ -6,8 +6,8 @@ use Rattle.lz_tree.specs.ScopedTrees.{ScopedExpression, ScopedExpressions, none,
 use Rattle.lz_tree.specs.declared.scoped.KnownName.{KnownName}
 use Rattle.lz_model.specs.CodeTraces.{Locals, kind_of, kinds_of, is_object_argument}
 use Rattle.lz_machine.specs.Fits.{IsFit, AreFit}
-use Rattle.lz_machine.specs.Stages.{arguing, Move, goes, comes, stops}
-use Rattle.lz_machine.specs.Moves.{Called, known_called, argument_at, argued_so, argued_move, passing_one, passing_so, passing_move, value_so, arguing_so, arguing_move, known_move, handed_one, handed_so, handed_move}
+use Rattle.lz_machine.specs.Stages.{given, argument, arguing, at_stage, calls_on, Move, enters, goes, comes, stops}
+use Rattle.lz_machine.specs.Moves.{Called, known_called, argument_at, calling_so, argued_so, argued_move, passing_one, passing_so, passing_move, value_so, arguing_so, arguing_move, known_move, handed_one, handed_so, handed_move}
 
 -- the argument at a place in range
 pub argument_in : (xs : List ScopedExpr) (k : ℕ) (x : ScopedExpr) → k < length xs → x ≡ get_or xs k x → argument_at (scoped_expressions_of (map scoped_expression xs)) k ≡ Some (scoped_expression x)
@@ -47,6 +47,22 @@ take_whole (x ∷ xs) (suc k) h = ap (λ (ys : List ScopedExpr). x ∷ ys) (take
 
 pub kinds-end : (xs : List ScopedExpr) (k : ℕ) (kinds : List IntType) → length xs ≤ k → kinds ≡ map (λ x. kind_of (scoped_expression x)) (take k xs) → kinds ≡ kinds_of (scoped_expressions_of (map scoped_expression xs))
 kinds-end xs k kinds h e = e ∙ (ap (map (λ (x : ScopedExpr). kind_of (scoped_expression x))) (take_whole xs k h) ∙ sym (kinds-of xs))
+
+-- ---- calls of functions, by how many values are known
+
+pub calling_in : (xs : List ScopedExpr) (function : ℕ) (values : List ℕ) (n : ℕ) → n ≡ length values → n < length xs
+    → enters (argument values) ≡ calling_so (argument_at (scoped_expressions_of (map scoped_expression xs)) (length values)) function (scoped_expressions_of (map scoped_expression xs)) values
+calling_in xs function values n e h =
+    let low : length values < length xs = omega (arith, e, h) in
+    let there = argument_there xs (length values) low in
+    ap (λ (o : Option ScopedExpression). calling_so o function (scoped_expressions_of (map scoped_expression xs)) values) (sym there.1)
+
+pub calling_out : (xs : List ScopedExpr) (function : ℕ) (values : List ℕ) (n : ℕ) (kinds : List IntType) → n ≡ length values → length xs ≤ n → kinds ≡ kinds_of (scoped_expressions_of (map scoped_expression xs))
+    → comes (calls_on function kinds values (at_stage given)) ≡ calling_so (argument_at (scoped_expressions_of (map scoped_expression xs)) (length values)) function (scoped_expressions_of (map scoped_expression xs)) values
+calling_out xs function values n kinds e h is =
+    let high : length xs ≤ length values = omega (arith, e, h) in
+    ap (λ (ks : List IntType). comes (calls_on function ks values (at_stage given))) is
+    ∙ ap (λ (o : Option ScopedExpression). calling_so o function (scoped_expressions_of (map scoped_expression xs)) values) (sym (argument_out xs (length values) high))
 
 -- ---- calls of known names, by the argument at a place
 

@@ -93,6 +93,13 @@ fn kinds_of(alloc: Global, args: &[ScopedExpr]) -> Result<Vec<IntType>, Memory>
     Ok(kinds)
 }
 
+/// How many words there are.
+fn number_of(words: &[u32]) -> usize
+    ensures { result ≡ length words.now }
+{
+    words.len()
+}
+
 /// A call of a function that is before an argument, or behind all.
 fn calling_so(
     alloc: Global,
@@ -102,7 +109,8 @@ fn calling_so(
 ) -> Result<Move, Memory>
     ensures { let args = scoped_expressions_of (map scoped_expression args.now) in IfOk result (λ m. move_of m ≡ spec.calling_so (spec.argument_at args (length values.items)) function args values.items) }
 {
-    if values.len() < args.len() {
+    let known = number_of(&values);
+    if known < args.len() {
         return Ok(Move::Enters {
             stage: Stage::Argument { values },
         });
