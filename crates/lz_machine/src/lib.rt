@@ -1,0 +1,15 @@
+//! The resumable thread: code that stops between any two of its actions. What is here: the steps of the nodes of
+//! expressions, stage by stage, each proved to lead to what is left of the node's traces, Loc left out.
+#![tactic(auto)]
+
+mod advancing;
+mod calls;
+mod laws;
+mod moves;
+mod nodes;
+mod stage;
+mod values;
+
+pub use advancing::{came_within, done_value, moved};
+pub use laws::{a_turn_of_a_node, turns_end};
+pub use stage::{Came, Locals, Move, Place, Stage};
