@@ -1,0 +1,3 @@
+pub mod ArgumentsLemmas
+pub mod MeaningLemmas
+pub mod NamesLemmas
