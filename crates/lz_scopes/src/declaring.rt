@@ -51,7 +51,7 @@ pub fn is_bad_length(length: &Option<Expr>) -> bool
 }
 
 /// A sum that fits.
-fn sum_of(a: u32, b: u32) -> Result<u32, Memory>
+pub fn sum_of(a: u32, b: u32) -> Result<u32, Memory>
     ensures { IfOk result (λ n. n ≡ a + b) }
 {
     match a.checked_add(b) {

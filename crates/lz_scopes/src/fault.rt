@@ -1,3 +1,5 @@
+use lz_base::Memory;
+
 /// The rules of the language, in the order of their numbers from 1 to 26.
 #[derive(Clone, Copy, Debug, PartialEq, Eq)]
 pub enum Rule {
@@ -69,4 +71,15 @@ pub enum TypeError {
     Rule { line: u32, number: u32 },
     /// Want of memory.
     Memory,
+}
+
+impl From<Memory> for TypeError {
+    ghost use Rattle.std.specs.Prelude.{◌≡◌};
+    ghost use Rattle.lz_scopes.specs.declared.fault.TypeError.TheVariants as errors;
+
+    ghost from_gives = { λ _ e. e ≡ errors.Memory };
+
+    fn from(_memory: Memory) -> TypeError {
+        TypeError::Memory
+    }
 }

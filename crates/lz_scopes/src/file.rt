@@ -1,11 +1,17 @@
-ghost use Rattle.std.specs.Prelude.{◌≡◌, ◌==◌, map, option_map, slice_get};
+ghost use Rattle.std.specs.Prelude.{◌≡◌, ◌==◌, [], ◌∷◌, ◌++◌, map, option_map, slice_get, IfOk, OnOk};
 ghost use Rattle.std.specs.List.{list_any};
+ghost use Rattle.lz_tree.specs.Trees.{external_declaration, translation_unit};
 ghost use Rattle.lz_scopes.specs.Files as spec;
 ghost use Rattle.lz_scopes.specs.Files.{params_of};
-ghost use Rattle.lz_scopes.specs.Files.{File, HasDefined, function_named};
+ghost use Rattle.lz_scopes.specs.Files.{File, HasDefined, function_named, main_from, bare};
+ghost use Rattle.lz_scopes.specs.Scopes as scopes;
 
 use crate::signature::Signature;
-use lz_tree::{KnownName, TypeName};
+use crate::whole::{bases, known_ones, note_first, number_of};
+use indexmap::IndexMap;
+use lz_base::Memory;
+use lz_tree::{External, KnownName, Program, TypeName};
+use std::alloc::Global;
 use std::marker::Model;
 
 /// What is known of a whole file while it is walked.
@@ -16,8 +22,8 @@ pub struct WholeFile {
     /// The number of the name `main`.
     main: Option<u32>,
     functions: Vec<Signature>,
-    /// For each name the first function that has it.
-    defined: Vec<Option<u32>>,
+    /// The first function of each name that has one.
+    defined: IndexMap<u32, u32>,
     /// For each function those that it calls and that come back to it.
     returning: Vec<Vec<u32>>,
     /// For each function whether a start routine reaches it.
@@ -38,7 +44,7 @@ impl Model for WholeFile {
       high = f.high.items;
     } };
 
-    ghost invariant = { λ f. HasDefined f.functions.items f.defined.items };
+    ghost invariant = { λ f. HasDefined f.functions.items f.defined };
 }
 
 /// Whether a number is among some.
@@ -49,6 +55,101 @@ fn has_number(numbers: &[u32], number: u32) -> bool
 }
 
 impl WholeFile {
+    /// What is known of a file before its functions are looked into.
+    #[tactic(auto, unfolding(crate::specs::Files::file_with))]
+    pub fn new(alloc: Global, unit: &Program) -> Result<WholeFile, Memory>
+        ensures { IfOk result (λ file. file ≡ bare (translation_unit unit.now)) }
+    {
+        let names = unit.names.items();
+        let known = known_ones(alloc, names)?;
+        let main = number_of(names, "main")?;
+        let mut file = WholeFile {
+            known,
+            main,
+            functions: Vec::new(alloc),
+            defined: IndexMap::new(alloc),
+            returning: Vec::new(alloc),
+            reached: Vec::new(alloc),
+            high: Vec::new(alloc),
+        };
+        file.define_all(alloc, unit.externals.items())?;
+        Ok(file)
+    }
+
+    /// Adds a function.
+    fn define(&mut self, f: Signature) -> Result<(), Memory>
+        ensures { OnOk result (self.new ≡ record self.old { functions = self.old.functions ++ f ∷ [] }) }
+    {
+        if self.functions.len() >= 4_294_967_295 {
+            return Err(Memory);
+        }
+        let number = self.functions.len() as u32;
+        let name = f.name;
+        self.functions.push(f)?;
+        if note_first(&mut self.defined, name, number).is_err() {
+            let _ = self.functions.pop();
+            return Err(Memory);
+        }
+        Ok(())
+    }
+
+    /// Adds the function of an external declaration, if it has a body.
+    fn define_external(&mut self, alloc: Global, e: &External) -> Result<(), Memory>
+        ensures { OnOk result (self.new ≡ record self.old { functions = self.old.functions ++ scopes.signature_in (external_declaration e.now) }) }
+    {
+        match e {
+            External::Objects { .. } | External::Prototype { .. } => Ok(()),
+            External::Function {
+                gives,
+                name,
+                params,
+                ..
+            } => {
+                let params = bases(alloc, params.items())?;
+                let f = Signature {
+                    name: *name,
+                    gives: *gives,
+                    params,
+                };
+                self.define(f)
+            }
+        }
+    }
+
+    /// Adds the functions of external declarations.
+    fn define_all(&mut self, alloc: Global, externals: &[External]) -> Result<(), Memory>
+        ensures { OnOk result (self.new ≡ record self.old { functions = self.old.functions ++ scopes.signatures (map external_declaration externals.now) }) }
+    {
+        for e in externals {
+            self.define_external(alloc, e)?;
+        }
+        Ok(())
+    }
+
+    /// Sets what was found out about the functions: for each those that it calls and that come back to it, whether
+    /// a start routine reaches it, and whether its body is too high.
+    pub fn set_facts(&mut self, returning: Vec<Vec<u32>>, reached: Vec<bool>, high: Vec<bool>)
+        ensures { self.new ≡ record self.old {
+          returning = map (λ row. row.items) returning.items;
+          reached = reached.items;
+          high = high.items;
+        } }
+    {
+        self.returning = returning;
+        self.reached = reached;
+        self.high = high;
+    }
+
+    /// The number of the first function that is called `main`.
+    pub fn main_function(&self) -> Option<u32>
+        ensures { result ≡ main_from self.now 0 self.now.functions }
+    {
+        match self.main {
+            None => None,
+            Some(main) => self.function_named(main),
+        }
+    }
+
     /// What the name is as a known one.
     pub fn known(&self, name: u32) -> Option<KnownName>
         ensures { result ≡ spec.known_at self.now name }
@@ -73,10 +174,7 @@ impl WholeFile {
     pub fn function_named(&self, name: u32) -> Option<u32>
         ensures { result ≡ function_named self.now.functions name }
     {
-        match self.defined.get(name as usize) {
-            None => None,
-            Some(function) => *function,
-        }
+        self.defined.get(&name).copied()
     }
 
     /// Whether a function comes back to one that calls it.

@@ -1,5 +1,9 @@
+ghost use Rattle.std.specs.Prelude.{◌≡◌};
+ghost use Rattle.lz_scopes.specs.Scopes as spec;
+
 use crate::names::{Functions, Names};
 use lz_tree::TypeName;
+use std::alloc::Global;
 
 /// How many there are so far: over the whole file of cells, mutexes, conditions and thread objects, in a function
 /// of its locals, and at file scope of elements of all kinds together.
@@ -26,4 +30,26 @@ pub struct Place {
     pub gives: TypeName,
     pub in_loop: bool,
     pub counts: Counts,
+}
+
+/// The place before the first external declaration of a file.
+pub fn opening(alloc: Global) -> Place
+    ensures { result ≡ spec.opening }
+{
+    Place {
+        names: Names::new(alloc),
+        functions: Functions::new(alloc),
+        depth: 0,
+        function: 0,
+        gives: TypeName::Void,
+        in_loop: false,
+        counts: Counts {
+            cells: 0,
+            mutexes: 0,
+            conds: 0,
+            handles: 0,
+            locals: 0,
+            elements: 0,
+        },
+    }
 }
