@@ -1,6 +1,7 @@
 ghost use Rattle.std.specs.Prelude.{◌≡◌, ◌++◌, [], map, not, option_map, OnOk};
 ghost use Rattle.lz_tree.specs.Trees.{expression, expressions_of, initializer, init_declarator, declaration};
 ghost use Rattle.lz_scopes.specs.ValueTypes.{want_of, value_type};
+ghost use Rattle.lz_scopes.specs.ExpressionTypes.{count};
 ghost use Rattle.lz_scopes.specs.Constants as constants;
 ghost use Rattle.lz_scopes.specs.Scopes as scopes;
 ghost use Rattle.lz_types.specs.Faults as spec;
