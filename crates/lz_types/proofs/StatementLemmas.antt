@@ -6,14 +6,14 @@ use Rattle.lz_tree.specs.declared.expression.TypeName.{TypeName}
 use Rattle.lz_tree.specs.declared.statement.Stmt.{Stmt}
 use Rattle.lz_tree.specs.declared.statement.Declarator.{Declarator}
 use Rattle.lz_tree.specs.Trees.{InitDeclarator, Statement, empty, eval, block, declare, when, while, do_while, for, break, continue, return, label, Branch, absent, branch, Statements, nil, cons, init_declarator, statement, statements_of}
-use Rattle.lz_types.specs.declared.fault.Fault.{Fault}
-use Rattle.lz_types.specs.declared.names.Entry.{Entry}
-use Rattle.lz_types.specs.declared.place.Place.{Place}
-use Rattle.lz_types.specs.Files.{File}
-use Rattle.lz_types.specs.Scopes.{inside, inside_loop, behind, after, after_branch, after_all, with_declarator, with_declarators}
+use Rattle.lz_scopes.specs.declared.fault.Fault.{Fault}
+use Rattle.lz_scopes.specs.declared.names.Entry.{Entry}
+use Rattle.lz_scopes.specs.declared.place.Place.{Place}
+use Rattle.lz_scopes.specs.Files.{File}
+use Rattle.lz_scopes.specs.Scopes.{inside, inside_loop, behind, after, after_branch, after_all, with_declarator, with_declarators}
 use Rattle.lz_types.specs.Faults.{whole_declarator_faults, declarators_faults, statement_faults, statements_faults}
-use Rattle.lz_types.specs.Views.{ended, within}
-use Rattle.lz_types.proofs.ArgumentsLemmas.{drop_item}
+use Rattle.lz_scopes.specs.Views.{ended, within}
+use Rattle.lz_scopes.proofs.ArgumentsLemmas.{drop_item}
 
 -- What a place keeps behind a statement: objects are declared at the end, and all else but counts stays.
 pub record Kept (p q : Place) : Type 0 where

@@ -3,14 +3,14 @@ use Rattle.std.proofs.Common.{◌≡◌, ℕ, ◌+◌, ◌<◌, ◌≤◌, List,
 use Rattle.lz_tree.specs.declared.expression.Expr.{Expr}
 use Rattle.lz_tree.specs.declared.scoped.Object.{Object}
 use Rattle.lz_tree.specs.Trees.{Expression, Expressions, call, expression}
-use Rattle.lz_types.specs.declared.fault.Fault.{Fault}
-use Rattle.lz_types.specs.declared.fault.Rule.{Rule}
-use Rattle.lz_types.specs.declared.place.Place.{Place}
-use Rattle.lz_types.specs.declared.value_type.Want.{Want}
-use Rattle.lz_types.specs.Files.{File}
-use Rattle.lz_types.specs.ExpressionTypes.{first_want, rest_of, callee, wants_of, further_want}
+use Rattle.lz_scopes.specs.declared.fault.Fault.{Fault}
+use Rattle.lz_scopes.specs.declared.fault.Rule.{Rule}
+use Rattle.lz_scopes.specs.declared.place.Place.{Place}
+use Rattle.lz_scopes.specs.declared.value_types.Want.{Want}
+use Rattle.lz_scopes.specs.Files.{File}
+use Rattle.lz_scopes.specs.ExpressionTypes.{first_want, rest_of, callee, wants_of, further_want}
 use Rattle.lz_types.specs.Faults.{at, node, faults, all_faults}
-use Rattle.lz_types.proofs.ArgumentsLemmas.{rest_drop, left_at, next, none_left}
+use Rattle.lz_scopes.proofs.ArgumentsLemmas.{rest_drop, left_at, next, none_left}
 
 pub at_append : (line : ℕ) (a b : List Rule) → at line (a ++ b) ≡ at line a ++ at line b
 at_append line [] b = refl

@@ -8,13 +8,13 @@ use Rattle.lz_tree.specs.declared.expression.TypeName.TheVariants as types
 use Rattle.lz_tree.specs.declared.program.Param.{Param}
 use Rattle.lz_tree.specs.declared.program.Lead.TheVariants as leads
 use Rattle.lz_tree.specs.Trees.{Expression, constant, null, text, object, address, paren, unary, cast, binary, choose, assign, step, call, Index, whole, element, Expressions, none, and, Initializer, nothing, single, listed, mutex, cond, InitDeclarator, Declaration, Statement, empty, eval, block, declare, when, while, do_while, for, break, continue, return, label, Branch, absent, branch, Statements, nil, cons, ExternalDeclaration, objects, prototype, function, TranslationUnit}
-use Rattle.lz_types.specs.ValueTypes.{are_one_type}
-use Rattle.lz_types.specs.Constants.{constant_value}
-use Rattle.lz_types.specs.KnownNames.{known, known_names}
-use Rattle.lz_types.specs.Scopes.{after, after_external}
-use Rattle.lz_types.specs.ExpressionTypes.{type_of}
+use Rattle.lz_scopes.specs.ValueTypes.{are_one_type}
+use Rattle.lz_scopes.specs.Constants.{constant_value}
+use Rattle.lz_scopes.specs.KnownNames.{known, known_names}
+use Rattle.lz_scopes.specs.Scopes.{after, after_external}
+use Rattle.lz_scopes.specs.ExpressionTypes.{type_of}
 use Rattle.lz_types.specs.Faults.{faults, declarators_faults, statement_faults, params_faults, external_faults, externals_faults, file_faults}
-use Rattle.lz_types.specs.ScopedPrograms.{Facts, file_with, no_facts}
+use Rattle.lz_scopes.specs.Files.{Facts, file_with, no_facts}
 use Rattle.lz_types.specs.Checking.{number_of}
 
 abbrev form : Bool → Bool → ℕ → Form

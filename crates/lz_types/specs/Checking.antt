@@ -2,13 +2,15 @@
 use Rattle.std.specs.Prelude.{◌≡◌, ℕ, List, [], ◌∷◌, Result, Ok, Err}
 use Rattle.lz_tree.specs.Trees.{TranslationUnit}
 use Rattle.lz_tree.specs.ScopedTrees.{ScopedProgram}
-use Rattle.lz_types.specs.declared.fault.Fault.{Fault}
-use Rattle.lz_types.specs.declared.fault.Rule.{Rule}
-use Rattle.lz_types.specs.declared.fault.Rule.TheVariants.{Undeclared, DeclaredTwice, NoFunction, ArgumentCount, KnownNameTaken, NoValue, TypeMisfit, BadLength, NotConstant, BadInitializer, LargeConstant, OutsideLoop, BadReturn, Recursive, NoMain, NoStartRoutine, ThreadInThread, PointerOutsideStart, LocalMutex, MisplacedAddress, BadAttribute, MisplacedText, ManyElements, RefusedType, OtherPrototype, TooHigh}
-use Rattle.lz_types.specs.declared.fault.TypeError.{TypeError}
-use Rattle.lz_types.specs.declared.fault.TypeError.TheVariants as errors
-use Rattle.lz_types.specs.ScopedPrograms.{scoped_of}
-use Rattle.lz_types.specs.Calls.{AreFaults}
+use Rattle.lz_scopes.specs.declared.fault.Fault.{Fault}
+use Rattle.lz_scopes.specs.declared.fault.Rule.{Rule}
+use Rattle.lz_scopes.specs.declared.fault.Rule.TheVariants.{Undeclared, DeclaredTwice, NoFunction, ArgumentCount, KnownNameTaken, NoValue, TypeMisfit, BadLength, NotConstant, BadInitializer, LargeConstant, OutsideLoop, BadReturn, Recursive, NoMain, NoStartRoutine, ThreadInThread, PointerOutsideStart, LocalMutex, MisplacedAddress, BadAttribute, MisplacedText, ManyElements, RefusedType, OtherPrototype, TooHigh}
+use Rattle.lz_scopes.specs.declared.fault.TypeError.{TypeError}
+use Rattle.lz_scopes.specs.declared.fault.TypeError.TheVariants as errors
+use Rattle.lz_scopes.specs.Files.{Facts, file_with}
+use Rattle.lz_resolve.specs.ScopedPrograms.{scoped_of}
+use Rattle.lz_calls.specs.Calls.{AreFacts}
+use Rattle.lz_types.specs.Faults.{file_faults}
 
 -- the number of a rule
 abbrev pub number_of : Rule → ℕ
@@ -38,6 +40,12 @@ number_of ManyElements = 23
 number_of RefusedType = 24
 number_of OtherPrototype = 25
 number_of TooHigh = 26
+
+-- The list is that of all rules that the program breaks, in order.
+pub record AreFaults (unit : TranslationUnit) (list : List Fault) : Type 0 where
+  pub facts : Facts
+  pub right : AreFacts (scoped_of unit).functions facts
+  pub listed : list ≡ file_faults (file_with unit facts) unit.externals
 
 -- The answer on a program: its scoped program where it breaks no rule, and otherwise the first rule in the list of
 -- those that it breaks, with its line. Want of memory may be answered at any time.

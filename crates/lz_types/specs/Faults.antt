@@ -5,23 +5,23 @@ use Rattle.lz_tree.specs.declared.expression.TypeName.{TypeName}
 use Rattle.lz_tree.specs.declared.expression.TypeName.TheVariants as types
 use Rattle.lz_tree.specs.declared.program.Param.{Param}
 use Rattle.lz_tree.specs.Trees.{Expression, constant, null, text, object, address, paren, unary, cast, binary, choose, assign, step, call, Index, whole, element, Expressions, none, and, Initializer, nothing, single, listed, mutex, cond, InitDeclarator, Declaration, Statement, empty, eval, block, declare, when, while, do_while, for, break, continue, return, label, Branch, absent, branch, Statements, nil, cons, ExternalDeclaration, objects, prototype, function, TranslationUnit}
-use Rattle.lz_types.specs.declared.value_type.ValueType.{ValueType}
-use Rattle.lz_types.specs.declared.value_type.ValueType.TheVariants as sorts
-use Rattle.lz_types.specs.declared.value_type.Want.{Want}
-use Rattle.lz_types.specs.declared.value_type.Want.TheVariants as wants
-use Rattle.lz_types.specs.declared.fault.Fault.{Fault}
-use Rattle.lz_types.specs.declared.fault.Rule.{Rule}
-use Rattle.lz_types.specs.declared.fault.Rule.TheVariants.{DeclaredTwice, KnownNameTaken, TypeMisfit, BadLength, NotConstant, BadInitializer, OutsideLoop, BadReturn, NoMain, ThreadInThread, PointerOutsideStart, LocalMutex, ManyElements, RefusedType, OtherPrototype, TooHigh}
-use Rattle.lz_types.specs.ValueTypes.{is_refused, value_type, are_one_type, are_one_list, is_pointer, is_nothing, is_thread, is_mutex, is_cond, is_lock, is_no_operand, want_of}
-use Rattle.lz_types.specs.ValueTypes as values
-use Rattle.lz_types.specs.Constants.{elements, is_bad_length, is_constant_initializer, constant_value, length_in}
-use Rattle.lz_types.specs.KnownNames.{is_taken}
-use Rattle.lz_types.specs.declared.place.Place.{Place}
-use Rattle.lz_types.specs.Names.{nearest}
-use Rattle.lz_types.specs.declared.signature.Signature.{Signature}
-use Rattle.lz_types.specs.Scopes.{bases, is_start, is_start_at, named, is_outside, around, has_object, has_function, with_declarator, with_declarators, with_declaration, with_param, with_params, inside, inside_loop, behind, after, after_branch, after_all, opening, into_body, into, with_function, after_external}
-use Rattle.lz_types.specs.Files.{File, function_named, known_at, is_main, is_high}
-use Rattle.lz_types.specs.ExpressionTypes.{has_index, misuse, callee, wants_of, further_want, first_want, rest_of, count, is_function_name, is_start_place, is_in_thread, type_at, type_of, choice_want, own}
+use Rattle.lz_scopes.specs.declared.value_types.ValueType.{ValueType}
+use Rattle.lz_scopes.specs.declared.value_types.ValueType.TheVariants as sorts
+use Rattle.lz_scopes.specs.declared.value_types.Want.{Want}
+use Rattle.lz_scopes.specs.declared.value_types.Want.TheVariants as wants
+use Rattle.lz_scopes.specs.declared.fault.Fault.{Fault}
+use Rattle.lz_scopes.specs.declared.fault.Rule.{Rule}
+use Rattle.lz_scopes.specs.declared.fault.Rule.TheVariants.{DeclaredTwice, KnownNameTaken, TypeMisfit, BadLength, NotConstant, BadInitializer, OutsideLoop, BadReturn, NoMain, ThreadInThread, PointerOutsideStart, LocalMutex, ManyElements, RefusedType, OtherPrototype, TooHigh}
+use Rattle.lz_scopes.specs.ValueTypes.{is_refused, value_type, are_one_type, are_one_list, is_pointer, is_nothing, is_thread, is_mutex, is_cond, is_lock, is_no_operand, want_of}
+use Rattle.lz_scopes.specs.ValueTypes as values
+use Rattle.lz_scopes.specs.Constants.{elements, is_bad_length, is_constant_initializer, constant_value, length_in}
+use Rattle.lz_scopes.specs.KnownNames.{is_taken}
+use Rattle.lz_scopes.specs.declared.place.Place.{Place}
+use Rattle.lz_scopes.specs.Names.{nearest}
+use Rattle.lz_scopes.specs.declared.signature.Signature.{Signature}
+use Rattle.lz_scopes.specs.Scopes.{bases, is_start, is_start_at, is_start_form, named, is_outside, around, has_object, has_function, with_declarator, with_declarators, with_declaration, with_param, with_params, inside, inside_loop, behind, after, after_branch, after_all, opening, into_body, into, with_function, after_external}
+use Rattle.lz_scopes.specs.Files.{File, function_named, known_at, is_main, is_high, main_from}
+use Rattle.lz_scopes.specs.ExpressionTypes.{has_index, misuse, callee, wants_of, further_want, first_want, rest_of, count, is_function_name, is_start_place, is_in_thread, type_at, type_of, choice_want, own}
 
 -- the rules that are broken at a line
 abbrev pub at : ℕ → List Rule → List Fault
@@ -278,10 +278,6 @@ abbrev pub is_defined_before : Option ℕ → ℕ → Bool
 is_defined_before None n = false
 is_defined_before (Some m) n = nat_lt m n
 
--- a start routine's form
-abbrev pub is_start_form : ℕ → TypeName → List Param → Bool
-is_start_form name gives params = is_start (record { name = name; gives = gives; params = bases params })
-
 -- the rules that a prototype breaks by itself
 abbrev pub prototype_rules : File → Place → TypeName → ℕ → List Param → Bool → List Rule
 prototype_rules file place gives name params void_word =
@@ -329,11 +325,6 @@ is_right_main file f = are_one_type f.gives types_int && has_none f.params
 
     types_int : TypeName
     types_int = types.Int
-
--- the first function that is called `main`
-abbrev pub main_from : File → ℕ → List Signature → Option ℕ
-main_from file n [] = None
-main_from file n (f ∷ rest) = if is_main file f.name then Some n else main_from file (n + 1) rest
 
 abbrev pub main_in : File → Option Signature → Bool
 main_in file None = false

@@ -1,12 +1,3 @@
-pub mod ValueTypes
-pub mod Constants
-pub mod Files
-pub mod KnownNames
-pub mod Names
-pub mod Scopes
-pub mod ExpressionTypes
 pub mod Faults
-pub mod Views
-pub mod ScopedPrograms
-pub mod Calls
+pub mod Parts
 pub mod Checking

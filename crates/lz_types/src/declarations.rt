@@ -1,19 +1,14 @@
 ghost use Rattle.std.specs.Prelude.{◌≡◌, ◌++◌, [], map, not, option_map, OnOk};
 ghost use Rattle.lz_tree.specs.Trees.{expression, expressions_of, initializer, init_declarator, declaration};
-ghost use Rattle.lz_types.specs.ValueTypes.{want_of, value_type};
-ghost use Rattle.lz_types.specs.Constants as constants;
-ghost use Rattle.lz_types.specs.Scopes as scopes;
+ghost use Rattle.lz_scopes.specs.ValueTypes.{want_of, value_type};
+ghost use Rattle.lz_scopes.specs.ExpressionTypes.{count};
+ghost use Rattle.lz_scopes.specs.Constants as constants;
+ghost use Rattle.lz_scopes.specs.Scopes as scopes;
 ghost use Rattle.lz_types.specs.Faults as spec;
 
-use crate::constant::constant_value;
-use crate::declare::{declare_one, elements_behind, is_bad_length, is_longer, is_outside};
-use crate::expressions::{is_in_thread, push_when};
-use crate::fault::{Fault, Rule};
-use crate::file::WholeFile;
-use crate::place::Place;
-use crate::reserved::is_taken;
-use crate::value_type::{ValueType, Want, is_refused, value_type};
-use crate::walk::walk;
+use crate::walk::{walk};
+use crate::note::{push_when};
+use lz_scopes::{Fault, Place, Rule, ValueType, Want, WholeFile, constant_value, declare_one, elements_behind, is_bad_length, is_in_thread, is_outside, is_refused, is_taken, length_in, value_type};
 use lz_base::Memory;
 use lz_tree::{Declarator, Expr, First, Objects, TypeName};
 
@@ -70,6 +65,17 @@ fn walk_initializer(
         First::Listed { values, .. } => {
             walk_values(file, place, value_type(base).want(), values, faults)
         }
+    }
+}
+
+/// Whether the values of a list are more than the length of its array.
+#[tactic(auto, using(lz_scopes::proofs::ArgumentsLemmas::count_of))]
+fn is_longer(length: &Expr, values: &[Expr]) -> bool
+    ensures { result ≡ spec.is_over (constants.length_in (constants.constant_value (expression length.now))) (count (expressions_of (map expression values.now))) }
+{
+    match length_in(constant_value(length)) {
+        None => false,
+        Some(most) => (most as usize) < values.len(),
     }
 }
 

@@ -1,20 +1,11 @@
 ghost use Rattle.std.specs.Prelude.{◌≡◌, ◌++◌, [], map, option_map, OnOk};
 ghost use Rattle.lz_tree.specs.Trees.{expression, expressions_of, index_of, object};
-ghost use Rattle.lz_types.specs.ValueTypes.{rule_list};
-ghost use Rattle.lz_types.specs.ExpressionTypes as spec;
+ghost use Rattle.lz_scopes.specs.ValueTypes.{rule_list};
+ghost use Rattle.lz_scopes.specs.ExpressionTypes as spec;
 ghost use Rattle.lz_types.specs.Faults as faults_of;
 
-use crate::arguments::{breaks_at_call, has_index, is_function_name, is_handle};
-use crate::constant::is_large;
-use crate::expressions::{
-    can_return, chosen, is_only_started, is_thread_call, line_of, push_rule, push_when, type_at,
-    type_of, wrong_call,
-};
-use crate::fault::{Fault, Rule};
-use crate::file::WholeFile;
-use crate::meaning::{callee, misuse, name_at, want_at};
-use crate::place::Place;
-use crate::value_type::{Want, clash, is_refused};
+use crate::note::{line_of, push_rule, push_when};
+use lz_scopes::{Fault, Place, Rule, Want, WholeFile, breaks_at_call, callee, can_return, chosen, clash, has_index, is_function_name, is_handle, is_large, is_only_started, is_refused, is_thread_call, misuse, name_at, type_at, type_of, want_at, wrong_call};
 use lz_base::Memory;
 use lz_tree::{Expr, Object, Target};
 

@@ -1,6 +1,6 @@
 use Rattle.std.proofs.Common.{◌≡◌}
-use Rattle.lz_types.specs.Constants.{are_constant}
-use Rattle.lz_types.proofs.ArgumentsLemmas.{left_at}
+use Rattle.lz_scopes.specs.Constants.{are_constant}
+use Rattle.lz_scopes.proofs.ArgumentsLemmas.{left_at}
 use Rattle.lz_types.proofs.declarations.are_constant.Given as goal
 
 -- all are constant where those are that are left

@@ -1,6 +1,6 @@
 use Rattle.std.proofs.Common.{[]}
-use Rattle.lz_types.specs.declared.value_type.Want.{Want}
-use Rattle.lz_types.proofs.ArgumentsLemmas.{drop_nothing}
+use Rattle.lz_scopes.specs.declared.value_types.Want.{Want}
+use Rattle.lz_scopes.proofs.ArgumentsLemmas.{drop_nothing}
 use Rattle.lz_types.proofs.WalkLemmas.{faults_more, faults_done}
 use Rattle.lz_types.proofs.declarations.walk_values.Goals as goal
 

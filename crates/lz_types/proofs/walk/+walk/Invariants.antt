@@ -1,5 +1,5 @@
 use Rattle.std.proofs.Common.{◌≡◌, ◌++◌, drop}
-use Rattle.lz_types.specs.ExpressionTypes.{wants_of, further_want}
+use Rattle.lz_scopes.specs.ExpressionTypes.{wants_of, further_want}
 use Rattle.lz_types.proofs.WalkLemmas.{faults_from}
 use Rattle.lz_types.proofs.walk.+walk.Given as goal
 

@@ -1,6 +1,6 @@
 use Rattle.std.proofs.Common.{sym, ap}
 use Rattle.lz_tree.proofs.TreesLemmas.{is_call}
-use Rattle.lz_types.specs.ExpressionTypes.{early}
+use Rattle.lz_scopes.specs.ExpressionTypes.{early}
 use Rattle.lz_types.proofs.walk.early.Goals as goal
 
 pub returns-in-Call : goal.returns-in-Call

@@ -1,5 +1,5 @@
 use Rattle.std.proofs.Common.{sym}
-use Rattle.lz_types.proofs.ArgumentsLemmas.{count_of}
+use Rattle.lz_scopes.proofs.ArgumentsLemmas.{count_of}
 use Rattle.lz_types.proofs.walk.early_call.Goals as goal
 
 pub returns : goal.returns

@@ -1,0 +1,2 @@
+//! The program in which each name is replaced by what it means (C99 6.2.1, 6.7.8 and 6.9).
+#![tactic(auto)]

@@ -1,0 +1,4 @@
+pub mod ArgumentsLemmas
+pub mod MeaningLemmas
+pub mod NamesLemmas
+pub mod WholeLemmas
