@@ -3,5 +3,7 @@
 #![tactic(auto)]
 
 mod listing;
+mod reaching;
 
 pub use listing::graph;
+pub use reaching::{reach, row};
