@@ -6,7 +6,7 @@ use Rattle.std.proofs.lemmas.Option.{slice_get_past}
 use Rattle.lz_calls.specs.Calls.{row, Calls, Path, Reaches}
 use Rattle.lz_calls.specs.Reaching.{Among, IsReachedFrom, Marked, open_ones, work_left, Marks, Search, Looking, IsReach}
 
-no_truth : false ≡ true → ⊥
+pub no_truth : false ≡ true → ⊥
 no_truth e = absurd cc
 
 no_item : (x : ℕ) → Contains [] x → ⊥

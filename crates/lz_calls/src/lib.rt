@@ -2,8 +2,10 @@
 //! (C99 6.5.2.2).
 #![tactic(auto)]
 
+mod finding;
+mod heights;
 mod listing;
+mod ranks;
 mod reaching;
 
-pub use listing::graph;
-pub use reaching::{reach, row};
+pub use finding::{BODY_HEIGHT_LIMIT, CallFacts, facts};
