@@ -151,7 +151,7 @@ settled : (functions : List ScopedDefinition) (ranks : List ℕ) → IsRanking (
 settled functions ranks r zero f low = absurd (omega arith)
 settled functions ranks r (suc n) f low =
     body_agrees (λ x. x) sees_all functions ranks f (height_through functions ranks n) (height_through functions ranks (suc n)) (λ g c.
-      elim (lower (graph_of functions) ranks r f g c) [ inl same ↦ inl same | inr less ↦ inr (settled functions ranks r n g (omega (arith, less, low))) ]) (slice_get functions f) refl
+    elim (lower (graph_of functions) ranks r f g c) [ inl same ↦ inl same | inr less ↦ inr (settled functions ranks r n g (omega (arith, less, low))) ]) (slice_get functions f) refl
 
 at_most : (ranks : List ℕ) (f : ℕ) → slice_index ranks f ≤ greatest ranks
 at_most [] f = omega arith

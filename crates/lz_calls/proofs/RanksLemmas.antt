@@ -206,6 +206,6 @@ falling_turn graph ranks count f own calls so_far are is lower = record {
 pub not_falling : (graph : List (List ℕ)) (ranks : List ℕ) (count f own : ℕ) (calls : List ℕ) → f < count → calls ≡ row (slice_get graph f) → own ≡ slice_index ranks f → (AreLower ranks own count calls → ⊥) → IsFalling graph ranks count count → ⊥
 not_falling graph ranks count f own calls low are is none falling =
     none (λ k here.
-      let contained : Contains calls (slice_index calls k) = (k, here, default calls k 0 (slice_index calls k) here) in
-      let found = falling.each f (slice_index calls k) low (subst (λ (r : List ℕ). Contains r (slice_index calls k)) are contained) in
-      (found.0, omega (arith, found.1, is)))
+    let contained : Contains calls (slice_index calls k) = (k, here, default calls k 0 (slice_index calls k) here) in
+    let found = falling.each f (slice_index calls k) low (subst (λ (r : List ℕ). Contains r (slice_index calls k)) are contained) in
+    (found.0, omega (arith, found.1, is)))

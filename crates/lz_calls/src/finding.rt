@@ -55,11 +55,7 @@ fn returning_rows(
     Ok(rows)
 }
 
-fn note_start(
-    starts: &mut Vec<u32>,
-    function: &ScopedFunction,
-    number: u32,
-) -> Result<(), Memory>
+fn note_start(starts: &mut Vec<u32>, function: &ScopedFunction, number: u32) -> Result<(), Memory>
     ensures { OnOk result (starts.new.items ≡ (if function.now.start then starts.old.items ++ number ∷ [] else starts.old.items)) }
 {
     if function.start {
@@ -70,11 +66,7 @@ fn note_start(
 }
 
 /// The numbers of the start routines.
-fn starts_of(
-    alloc: Global,
-    functions: &[ScopedFunction],
-    count: u32,
-) -> Result<Vec<u32>, Memory>
+fn starts_of(alloc: Global, functions: &[ScopedFunction], count: u32) -> Result<Vec<u32>, Memory>
     requires { count ≡ length functions.now }
     ensures { IfOk result (λ starts. AreStarts (map scoped_definition functions.now) count starts.items) }
 {

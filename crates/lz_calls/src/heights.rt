@@ -229,12 +229,7 @@ fn statement_height(levels: &Levels, s: &ScopedStmt) -> u32
 }
 
 /// The height of one function's body, from those of the functions that it calls.
-fn body_height(
-    functions: &[ScopedFunction],
-    function: u32,
-    ranks: &[u64],
-    heights: &[u32],
-) -> u32
+fn body_height(functions: &[ScopedFunction], function: u32, ranks: &[u64], heights: &[u32]) -> u32
     ensures { result ≡ capped (exact.body_height ranks.now (slice_index heights.now) function (slice_get (map scoped_definition functions.now) function)) }
 {
     match functions.get(function as usize) {

@@ -43,11 +43,7 @@ fn list_expressions(items: &[ScopedExpr], calls: &mut Sequence<u32>) -> Result<(
 }
 
 #[cycle(list_expression)]
-fn list_call(
-    callee: Object,
-    args: &[ScopedExpr],
-    calls: &mut Sequence<u32>,
-) -> Result<(), Memory>
+fn list_call(callee: Object, args: &[ScopedExpr], calls: &mut Sequence<u32>) -> Result<(), Memory>
     ensures { OnOk result (calls.new ≡ calls.old ++ (spec.expressions_calls (scoped_expressions_of (map scoped_expression args.now)) ++ spec.called callee)) }
 {
     list_expressions(args, calls)?;
@@ -110,10 +106,7 @@ fn list_initializer(first: &ScopedFirst, calls: &mut Sequence<u32>) -> Result<()
     }
 }
 
-fn list_declarator(
-    declarator: &ScopedDeclarator,
-    calls: &mut Sequence<u32>,
-) -> Result<(), Memory>
+fn list_declarator(declarator: &ScopedDeclarator, calls: &mut Sequence<u32>) -> Result<(), Memory>
     ensures { OnOk result (calls.new ≡ calls.old ++ (spec.optional_calls (scoped_declarator declarator.now).length ++ spec.initializer_calls (scoped_declarator declarator.now).first)) }
 {
     list_optional(&declarator.length, calls)?;
@@ -208,10 +201,7 @@ fn calls_of(alloc: Global, function: &ScopedFunction) -> Result<Sequence<u32>, M
 }
 
 /// For each function those that it calls, in the order of the text. Each body is walked once.
-pub fn graph(
-    alloc: Global,
-    functions: &[ScopedFunction],
-) -> Result<Vec<Sequence<u32>>, Memory>
+pub fn graph(alloc: Global, functions: &[ScopedFunction]) -> Result<Vec<Sequence<u32>>, Memory>
     ensures { IfOk result (λ g. g.items ≡ graph_of (map scoped_definition functions.now)) }
 {
     let mut graph = Vec::new(alloc);

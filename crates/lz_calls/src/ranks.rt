@@ -23,11 +23,7 @@ fn marked(marks: &[bool]) -> usize
 }
 
 /// How many functions one can reach through calls, itself among them.
-fn reached_by(
-    alloc: Global,
-    graph: &[Sequence<u32>],
-    function: u32,
-) -> Result<u64, Memory>
+fn reached_by(alloc: Global, graph: &[Sequence<u32>], function: u32) -> Result<u64, Memory>
     ensures { IfOk result (λ n. IsCount graph.now function n) }
 {
     let marks = reach(alloc, graph, &[function])?;
@@ -83,8 +79,7 @@ pub fn returning_row(
 fn are_lower(ranks: &[u64], row: &[u32], own: u64, count: u32) -> bool
     ensures { IsTrue result ↔ AreLower ranks.now own count row.now }
 {
-    row.iter()
-        .all(|g| *g < count && rank_at(ranks, *g) < own)
+    row.iter().all(|g| *g < count && rank_at(ranks, *g) < own)
 }
 
 /// Whether each call leads to a function of lower rank. Looks at each call once.

@@ -30,11 +30,7 @@ fn mark(marks: &mut Vec<bool>, work: &mut Vec<u32>, function: u32) -> Result<(),
 }
 
 /// Which functions some can reach through calls, themselves among them. Looks at each call once.
-pub fn reach(
-    alloc: Global,
-    graph: &[Sequence<u32>],
-    starts: &[u32],
-) -> Result<Vec<bool>, Memory>
+pub fn reach(alloc: Global, graph: &[Sequence<u32>], starts: &[u32]) -> Result<Vec<bool>, Memory>
     ensures { IfOk result (λ marks. IsReach graph.now starts.now marks.items) }
 {
     let mut marks = vec![in alloc; false; graph.len()]?;

@@ -9,9 +9,11 @@ loop-s-preserved c =
     (rw (drop_at c.args.starts.now c.loop-s.s-index c.loop-s-test.true) at c.loop-s.invariant) c.in_ok-mark.ensures
 
 pub loop-g-init : goal.loop-g-init
-loop-g-init c =
-    (taken c.args.graph.now c.args.starts.now c.in-Some.f c.row-g-items.result.now c.loop-f.marks.items c.pop.new.self.items (rw c.in-Some.ensures.items at c.loop-f.invariant)
-    (in_row c.args.graph.now c.in-Some.f _ c.row-g-items.ensures) (from_row c.args.graph.now c.in-Some.f _ c.row-g-items.ensures), omega arith)
+loop-g-init c = (
+  taken c.args.graph.now c.args.starts.now c.in-Some.f c.row-g-items.result.now c.loop-f.marks.items c.pop.new.self.items (rw c.in-Some.ensures.items at c.loop-f.invariant)
+      (in_row c.args.graph.now c.in-Some.f _ c.row-g-items.ensures) (from_row c.args.graph.now c.in-Some.f _ c.row-g-items.ensures),
+  omega arith,
+)
 
 pub loop-f-init : goal.loop-f-init
 loop-f-init c = rw (drop_of_length-le c.args.starts.now c.loop-s-test.false) at c.loop-s.invariant
@@ -23,9 +25,11 @@ loop-f-preserved c =
 pub loop-g-preserved : goal.loop-g-preserved
 loop-g-preserved c =
     let less = c.in_ok-mark-2.ensures.less in
-    let before = c.loop-g.invariant.1 in
-    (looked c.args.graph.now c.args.starts.now c.in-Some.f _ (drop (c.loop-g.g-index + 1) c.row-g-items.result.now) c.loop-g.marks.items c.mark-in-loop-g.new.marks.items c.loop-g.work.items c.mark-in-loop-g.new.work.items
-    (rw (drop_at c.row-g-items.result.now c.loop-g.g-index c.loop-g-test.true) at c.loop-g.invariant.0) c.in_ok-mark-2.ensures, omega arith)
+    let before = c.loop-g.invariant.1 in (
+      looked c.args.graph.now c.args.starts.now c.in-Some.f _ (drop (c.loop-g.g-index + 1) c.row-g-items.result.now) c.loop-g.marks.items c.mark-in-loop-g.new.marks.items c.loop-g.work.items c.mark-in-loop-g.new.work.items
+          (rw (drop_at c.row-g-items.result.now c.loop-g.g-index c.loop-g-test.true) at c.loop-g.invariant.0) c.in_ok-mark-2.ensures,
+      omega arith,
+    )
 
 pub returns : goal.returns
 returns c =
