@@ -1,3 +1,4 @@
 pub mod ArgumentsLemmas
 pub mod MeaningLemmas
 pub mod NamesLemmas
+pub mod PlacesLemmas

@@ -16,9 +16,10 @@ mod signature;
 mod value_types;
 
 pub use arguments::{breaks_at_call, has_index, is_function_name, is_handle};
-pub use constant::{Word, constant_value, is_large};
+pub use constant::{Word, as_word, constant_value, is_large};
 pub use declaring::{
-    begin, declare, declare_one, elements, elements_behind, end, is_bad_length, is_outside, length_in,
+    begin, declare, declare_one, elements, elements_behind, end, is_bad_length, is_outside,
+    length_in, object_from,
 };
 pub use expressions::{
     can_return, chosen, is_in_thread, is_only_started, is_thread_call, type_at, type_of, wrong_call,
