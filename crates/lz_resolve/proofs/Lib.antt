@@ -1,1 +1,3 @@
+mod DeclarationsLemmas
+mod ExpressionsLemmas
 mod ScopedWitnesses

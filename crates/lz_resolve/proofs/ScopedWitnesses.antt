@@ -17,6 +17,7 @@ use Rattle.lz_tree.specs.ScopedTrees.{ScopedExpression, ScopedIndex, ScopedInitD
 use Rattle.lz_scopes.specs.ValueTypes.{are_one_type}
 use Rattle.lz_scopes.specs.Constants.{constant_value}
 use Rattle.lz_scopes.specs.KnownNames.{known, known_names}
+use Rattle.lz_scopes.specs.Files.{file_with}
 use Rattle.lz_scopes.specs.Scopes.{after, after_external}
 use Rattle.lz_scopes.specs.ExpressionTypes.{type_of}
 use Rattle.lz_resolve.specs.ScopedPrograms.{scope, scope_statement, scope_declarators, scope_externals, after_externals, cells_of, scoped_of}

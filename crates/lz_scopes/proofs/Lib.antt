@@ -2,3 +2,4 @@ pub mod ArgumentsLemmas
 pub mod MeaningLemmas
 pub mod NamesLemmas
 pub mod WholeLemmas
+pub mod PlacesLemmas

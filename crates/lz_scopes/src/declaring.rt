@@ -75,7 +75,7 @@ fn is_counted(of: ValueType) -> bool
 }
 
 /// The object that a declarator at the place declares.
-fn object_from(place: &Place, of: ValueType, len: u32) -> Object
+pub fn object_from(place: &Place, of: ValueType, len: u32) -> Object
     ensures { result ≡ spec.object_from place.now of len }
 {
     match of {

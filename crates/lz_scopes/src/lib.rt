@@ -18,10 +18,10 @@ mod value_types;
 mod whole;
 
 pub use arguments::{breaks_at_call, has_index, is_function_name, is_handle};
-pub use constant::{Word, constant_value, is_large};
+pub use constant::{Word, as_word, constant_value, is_large};
 pub use declaring::{
     begin, declare, declare_one, elements, elements_behind, end, is_bad_length, is_outside,
-    length_in,
+    length_in, object_from,
 };
 pub use entering::{Outer, declare_param, enter, leave_function, leave_prototype};
 pub use expressions::{

@@ -6,10 +6,13 @@ ghost use Rattle.lz_scopes.specs.Constants as constants;
 ghost use Rattle.lz_scopes.specs.Scopes as scopes;
 ghost use Rattle.lz_types.specs.Faults as spec;
 
-use crate::walk::{walk};
-use crate::note::{push_when};
-use lz_scopes::{Fault, Place, Rule, ValueType, Want, WholeFile, constant_value, declare_one, elements_behind, is_bad_length, is_in_thread, is_outside, is_refused, is_taken, length_in, value_type};
+use crate::note::push_when;
+use crate::walk::walk;
 use lz_base::Memory;
+use lz_scopes::{
+    Fault, Place, Rule, ValueType, Want, WholeFile, constant_value, declare_one, elements_behind,
+    is_bad_length, is_in_thread, is_outside, is_refused, is_taken, length_in, value_type,
+};
 use lz_tree::{Declarator, Expr, First, Objects, TypeName};
 
 /// The most elements at file scope.

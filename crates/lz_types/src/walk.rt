@@ -5,8 +5,12 @@ ghost use Rattle.lz_scopes.specs.ExpressionTypes as spec;
 ghost use Rattle.lz_types.specs.Faults as faults_of;
 
 use crate::note::{line_of, push_rule, push_when};
-use lz_scopes::{Fault, Place, Rule, Want, WholeFile, breaks_at_call, callee, can_return, chosen, clash, has_index, is_function_name, is_handle, is_large, is_only_started, is_refused, is_thread_call, misuse, name_at, type_at, type_of, want_at, wrong_call};
 use lz_base::Memory;
+use lz_scopes::{
+    Fault, Place, Rule, Want, WholeFile, breaks_at_call, callee, can_return, chosen, clash,
+    has_index, is_function_name, is_handle, is_large, is_only_started, is_refused, is_thread_call,
+    misuse, name_at, type_at, type_of, want_at, wrong_call,
+};
 use lz_tree::{Expr, Object, Target};
 
 /// The rule up to that of types that a call breaks.
