@@ -2268,7 +2268,7 @@ class Maker:
         one, other = self.value(depth - 1), self.value(depth - 1)
         kinds = ["sum"] * 4 + ["comparison"] * 3 + ["other"] * 2 + ["unary"] * 2 + ["choice", "cast"]
         if not self.defined:
-            kinds += ["assign", "step"]
+            kinds += ["assign", "step", "step"]
         if any(gives != "void" for _, gives, _ in self.functions) and not self.defined:
             kinds.append("call")
         if not self.plain and not self.defined:
@@ -2314,12 +2314,14 @@ INTS = ["int", "int", "unsigned"]
 
 
 def mutated(random, steps, threads):
-    """A schedule that differs in one place."""
+    """A schedule that differs in one place, or ends there with another step."""
     steps = list(steps)
-    kind = random.choice(["thread", "choice", "out", "double", "exchange", "more", "far"])
+    kind = random.choice(["thread", "choice", "out", "double", "exchange", "more", "far", "end", "end", "end"])
     if not steps:
         return [(random.randrange(threads + 1), 0)]
     at = random.randrange(len(steps))
+    if kind == "end":
+        return [*steps[:at], (random.randrange(threads), random.choice([0, 0, 1, 2, 3]))]
     thread, choice = steps[at]
     if kind == "thread":
         steps[at] = (random.randrange(threads + 1), choice)
@@ -2429,7 +2431,7 @@ def watched(random, text, turns):
     while replayer.step(0, 0)[0] == GOES:
         pass
     cells = list(replayer.state.cells)
-    if random.random() < 0.3:
+    if random.random() < 0.5:
         cells[random.randrange(8)] ^= 1
     return text[:-3] + f"assert({' && '.join(f'{name} == {word}u' for name, word in zip(OBJECTS, cells))}); }}\n"
 
@@ -2535,7 +2537,7 @@ def command_mains(command, random, programs, tally):
     wrong = 0
     cases = [row for row in rows() if any(bounds == "alone" for bounds, _ in row.verdicts)]
     for _ in range(programs):
-        text, turns = Maker(random, 0, random.random() < 0.9).program(), random.choice([1, 2, 2, 3, 10])
+        text, turns = Maker(random, 0, random.random() < 0.9, random.random() < 0.5).program(), random.choice([1, 2, 2, 3, 3, 10])
         cases.append(Written(watched(random, text, turns), turns))
     for case in cases:
         expected = check_main(Program(case.text), case.turns)
