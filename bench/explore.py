@@ -1630,8 +1630,8 @@ int main(void) { return 1 / e() + (z = 1); }
 int f(int a) { a; } int main(void) { assert(f(1)); }
 : 0 -> breaks assert 1
 = locals are 0 in each call anew
-int f(int a) { if (a) { int y = 5; y++; return y; } int z = z; return z; }
-int main(void) { assert(f(1) == 6); assert(f(0) == 0); }
+int f(int a) { int z = z + a; return z; }
+int main(void) { assert(f(1) == 1); assert(f(1) == 1); }
 : 0 0 0 -> holds
 = the argument of a thread
 void *f(void *a) { assert((int)a != -1); return a; } int main(void) { pthread_t t; pthread_create(&t, 0, f, (void *)-1); }
