@@ -1,3 +1,5 @@
+mod RecursionLemmas
 mod StatementLemmas
+pub mod UniqueLemmas
 mod WalkLemmas
 mod Witnesses

@@ -3,4 +3,5 @@
 
 mod declarations;
 mod note;
+mod laws;
 mod walk;
