@@ -12,14 +12,16 @@ use Rattle.lz_model.specs.declared.schedule.Step.{Step}
 use Rattle.lz_model.specs.Violation.{Violated}
 use Rattle.lz_model.proofs.ViolationLemmas.{rounds_of_run-follows}
 use Rattle.lz_cli.specs.declared.ending.Ending.{Ending}
-use Rattle.lz_cli.specs.declared.ending.Ending.TheVariants.{Successful, Failed, NotAToken, NotAProgram, Recheck, NotBuilt, FileTooLong, ProofTooLong, ReadFault, OutOfMemory}
+use Rattle.lz_cli.specs.declared.ending.Ending.TheVariants.{Successful, Failed, NotAToken, NotAProgram, Faulty, ManySlots, HighCost, Recheck, NotBuilt, FileTooLong, ProofTooLong, ReadFault, OutOfMemory}
 use Rattle.lz_cli.specs.CommandLine.{IsFileName, IsProofName, IsNamed}
 use Rattle.lz_cli.specs.Recheck.{proof_limit, IsRechecked}
 use Rattle.lz_base.specs.Limits.{file_limit}
 use Rattle.lz_cli.specs.Limits.{defaults}
 use Rattle.lz_cli.specs.Source.{HasNoTokens, HasTree, IsFirstForm, IsOtherForm}
+use Rattle.lz_cli.specs.Admission.{IsFaulty, IsAccepted, HasManySlots, HasHighCost, IsAdmitted}
 use Rattle.lz_cli.specs.Ending.{Call, IsSource, IsProofSource, IsVerdict, IsFailure, IsLawful, NamesNoFile}
 use Rattle.lz_cli.specs.Exactness.{IsToldFile, IsToldProof, IsDecided, IsRefusal, IsEither, IsAnswer}
+use Rattle.lz_cli.proofs.AdmissionLemmas.{no_fault_accepted, one_faulty, no_slots_accepted, no_cost_accepted, one_slots, one_cost}
 use Rattle.lz_cli.proofs.SourceLemmas.{OneTree, one_tokens, no_tokens, one_place, no_tree, one_meaning, no_other}
 
 first_of : List (List ℕ) → List ℕ
@@ -108,6 +110,12 @@ told_verdict call content (NotAToken line place) told short lawful =
     subst (λ (b : List ℕ). IsVerdict defaults b (NotAToken line place)) (source_bytes call content lawful.0 told lawful.1) lawful.2
 told_verdict call content (NotAProgram line token) told short lawful =
     subst (λ (b : List ℕ). IsVerdict defaults b (NotAProgram line token)) (source_bytes call content lawful.0 told lawful.1) lawful.2
+told_verdict call content (Faulty line rule) told short lawful =
+    subst (λ (b : List ℕ). IsVerdict defaults b (Faulty line rule)) (source_bytes call content lawful.0 told lawful.1) lawful.2
+told_verdict call content (ManySlots slots) told short lawful =
+    subst (λ (b : List ℕ). IsVerdict defaults b (ManySlots slots)) (source_bytes call content lawful.0 told lawful.1) lawful.2
+told_verdict call content (HighCost cost) told short lawful =
+    subst (λ (b : List ℕ). IsVerdict defaults b (HighCost cost)) (source_bytes call content lawful.0 told lawful.1) lawful.2
 told_verdict call content (Recheck answer) told short lawful = absurd (one_kind call.words told.name lawful.1.name told.named lawful.1.named)
 told_verdict call content (NotBuilt line) told short (inl lawful) =
     subst (λ (b : List ℕ). IsVerdict defaults b (NotBuilt line)) (source_bytes call content lawful.0 told lawful.1) lawful.2
@@ -123,38 +131,101 @@ failure_violates bytes kind line schedule failure =
     (failure.run, kind, line, failure.is_broken, omega (arith, rounds_of_run-follows failure.run schedule failure.follows, failure.within_rounds))
 
 -- a file of the first form
-decided_by : OneTree → (bytes : List ℕ) (p : Program) (ending : Ending) → IsFirstForm bytes p → IsVerdict defaults bytes ending → IsDecided p ending
-decided_by one bytes p (Successful unwind rounds formula log) form v =
+decided_by : OneTree → (bytes : List ℕ) (p : Program) (ending : Ending) → IsAdmitted defaults bytes → IsFirstForm bytes p → IsVerdict defaults bytes ending → IsDecided p ending
+decided_by one bytes p (Successful unwind rounds formula log) in_limits form v =
     subst (λ (q : Program). Violated q defaults.unwind defaults.rounds → ⊥) (one_meaning one bytes v.program p v.form form) v.not_violated
-decided_by one bytes p (Failed kind line schedule) form v =
+decided_by one bytes p (Failed kind line schedule) in_limits form v =
     subst (λ (q : Program). Violated q defaults.unwind defaults.rounds) (one_meaning one bytes v.program p v.form form) (failure_violates bytes kind line schedule v)
-decided_by one bytes p (NotAToken line place) form v = no_tokens bytes form.of.tokens line place form.of.are v
-decided_by one bytes p (NotAProgram line token) form v = no_tree bytes form.tree line token form.of v
-decided_by one bytes p (Recheck answer) form v = v
-decided_by one bytes p (NotBuilt line) form v = no_other one bytes p form v.other_form
-decided_by one bytes p FileTooLong form v = v
-decided_by one bytes p ProofTooLong form v = v
-decided_by one bytes p (ReadFault name) form v = v
-decided_by one bytes p OutOfMemory form v = tt
+decided_by one bytes p (NotAToken line place) in_limits form v = no_tokens bytes form.of.tokens line place form.of.are v
+decided_by one bytes p (NotAProgram line token) in_limits form v = no_tree bytes form.tree line token form.of v
+decided_by one bytes p (Faulty line rule) in_limits form v = no_fault_accepted one bytes in_limits.tree line rule in_limits.accepted v
+decided_by one bytes p (ManySlots slots) in_limits form v = no_slots_accepted one defaults bytes in_limits.tree slots in_limits.accepted in_limits.few_slots v
+decided_by one bytes p (HighCost cost) in_limits form v = no_cost_accepted one defaults bytes in_limits.tree cost in_limits.accepted in_limits.low_cost v
+decided_by one bytes p (Recheck answer) in_limits form v = v
+decided_by one bytes p (NotBuilt line) in_limits form v = no_other one bytes p form v.other_form
+decided_by one bytes p FileTooLong in_limits form v = v
+decided_by one bytes p ProofTooLong in_limits form v = v
+decided_by one bytes p (ReadFault name) in_limits form v = v
+decided_by one bytes p OutOfMemory in_limits form v = tt
 
-pub decided_ends : OneTree → (call : Call) (content : List ℕ) (p : Program) (ending : Ending) → IsToldFile call content → length content ≤ file_limit → IsFirstForm content p → IsLawful call ending → IsDecided p ending
-decided_ends one call content p ending told short form lawful = decided_by one content p ending form (told_verdict call content ending told short lawful)
+pub decided_ends : OneTree → (call : Call) (content : List ℕ) (p : Program) (ending : Ending) → IsToldFile call content → length content ≤ file_limit → IsAdmitted defaults content → IsFirstForm content p → IsLawful call ending → IsDecided p ending
+decided_ends one call content p ending told short in_limits form lawful = decided_by one content p ending in_limits form (told_verdict call content ending told short lawful)
 
 -- a file of another form
-not_built_by : OneTree → (bytes : List ℕ) (ending : Ending) → IsOtherForm bytes → IsVerdict defaults bytes ending → IsEither (NotBuilt 0) ending
-not_built_by one bytes (Successful unwind rounds formula log) other v = no_other one bytes v.program v.form other
-not_built_by one bytes (Failed kind line schedule) other v = no_other one bytes v.program v.form other
-not_built_by one bytes (NotAToken line place) other v = no_tokens bytes other.of.tokens line place other.of.are v
-not_built_by one bytes (NotAProgram line token) other v = no_tree bytes other.tree line token other.of v
-not_built_by one bytes (Recheck answer) other v = absurd v
-not_built_by one bytes (NotBuilt line) other v = ap NotBuilt (sym v.no_line)
-not_built_by one bytes FileTooLong other v = absurd v
-not_built_by one bytes ProofTooLong other v = absurd v
-not_built_by one bytes (ReadFault name) other v = absurd v
-not_built_by one bytes OutOfMemory other v = tt
+not_built_by : OneTree → (bytes : List ℕ) (ending : Ending) → IsAdmitted defaults bytes → IsOtherForm bytes → IsVerdict defaults bytes ending → IsEither (NotBuilt 0) ending
+not_built_by one bytes (Successful unwind rounds formula log) in_limits other v = no_other one bytes v.program v.form other
+not_built_by one bytes (Failed kind line schedule) in_limits other v = no_other one bytes v.program v.form other
+not_built_by one bytes (NotAToken line place) in_limits other v = no_tokens bytes other.of.tokens line place other.of.are v
+not_built_by one bytes (NotAProgram line token) in_limits other v = no_tree bytes other.tree line token other.of v
+not_built_by one bytes (Faulty line rule) in_limits other v = no_fault_accepted one bytes in_limits.tree line rule in_limits.accepted v
+not_built_by one bytes (ManySlots slots) in_limits other v = no_slots_accepted one defaults bytes in_limits.tree slots in_limits.accepted in_limits.few_slots v
+not_built_by one bytes (HighCost cost) in_limits other v = no_cost_accepted one defaults bytes in_limits.tree cost in_limits.accepted in_limits.low_cost v
+not_built_by one bytes (Recheck answer) in_limits other v = absurd v
+not_built_by one bytes (NotBuilt line) in_limits other v = ap NotBuilt (sym v.no_line)
+not_built_by one bytes FileTooLong in_limits other v = absurd v
+not_built_by one bytes ProofTooLong in_limits other v = absurd v
+not_built_by one bytes (ReadFault name) in_limits other v = absurd v
+not_built_by one bytes OutOfMemory in_limits other v = tt
 
-pub not_built_ends : OneTree → (call : Call) (content : List ℕ) (ending : Ending) → IsToldFile call content → length content ≤ file_limit → IsOtherForm content → IsLawful call ending → IsEither (NotBuilt 0) ending
-not_built_ends one call content ending told short other lawful = not_built_by one content ending other (told_verdict call content ending told short lawful)
+pub not_built_ends : OneTree → (call : Call) (content : List ℕ) (ending : Ending) → IsToldFile call content → length content ≤ file_limit → IsAdmitted defaults content → IsOtherForm content → IsLawful call ending → IsEither (NotBuilt 0) ending
+not_built_ends one call content ending told short in_limits other lawful = not_built_by one content ending in_limits other (told_verdict call content ending told short lawful)
+
+-- a file whose program breaks a rule
+faulty_by : OneTree → (bytes : List ℕ) (line rule : ℕ) (ending : Ending) → IsFaulty bytes line rule → IsVerdict defaults bytes ending → IsEither (Faulty line rule) ending
+faulty_by one bytes line rule (Successful unwind rounds formula log) f v = no_fault_accepted one bytes v.admitted.tree line rule v.admitted.accepted f
+faulty_by one bytes line rule (Failed kind l schedule) f v = no_fault_accepted one bytes v.admitted.tree line rule v.admitted.accepted f
+faulty_by one bytes line rule (NotAToken l place) f v = no_tokens bytes f.of.tokens l place f.of.are v
+faulty_by one bytes line rule (NotAProgram l token) f v = no_tree bytes f.tree l token f.of v
+faulty_by one bytes line rule (Faulty l r) f v = one_faulty one bytes line rule l r f v
+faulty_by one bytes line rule (ManySlots slots) f v = no_fault_accepted one bytes v.tree line rule v.accepted f
+faulty_by one bytes line rule (HighCost cost) f v = no_fault_accepted one bytes v.tree line rule v.accepted f
+faulty_by one bytes line rule (Recheck answer) f v = absurd v
+faulty_by one bytes line rule (NotBuilt l) f v = no_fault_accepted one bytes v.admitted.tree line rule v.admitted.accepted f
+faulty_by one bytes line rule FileTooLong f v = absurd v
+faulty_by one bytes line rule ProofTooLong f v = absurd v
+faulty_by one bytes line rule (ReadFault name) f v = absurd v
+faulty_by one bytes line rule OutOfMemory f v = tt
+
+pub faulty_ends : OneTree → (call : Call) (content : List ℕ) (line rule : ℕ) (ending : Ending) → IsToldFile call content → length content ≤ file_limit → IsFaulty content line rule → IsLawful call ending → IsEither (Faulty line rule) ending
+faulty_ends one call content line rule ending told short f lawful = faulty_by one content line rule ending f (told_verdict call content ending told short lawful)
+
+-- a file whose program has too many slots
+slots_by : OneTree → (bytes : List ℕ) (slots : ℕ) (ending : Ending) → HasManySlots defaults bytes slots → IsVerdict defaults bytes ending → IsEither (ManySlots slots) ending
+slots_by one bytes slots (Successful unwind rounds formula log) m v = no_slots_accepted one defaults bytes v.admitted.tree slots v.admitted.accepted v.admitted.few_slots m
+slots_by one bytes slots (Failed kind line schedule) m v = no_slots_accepted one defaults bytes v.admitted.tree slots v.admitted.accepted v.admitted.few_slots m
+slots_by one bytes slots (NotAToken line place) m v = no_tokens bytes m.accepted.of.tokens line place m.accepted.of.are v
+slots_by one bytes slots (NotAProgram line token) m v = no_tree bytes m.tree line token m.accepted.of v
+slots_by one bytes slots (Faulty line rule) m v = no_fault_accepted one bytes m.tree line rule m.accepted v
+slots_by one bytes slots (ManySlots n) m v = one_slots one defaults bytes slots n m v
+slots_by one bytes slots (HighCost cost) m v = no_slots_accepted one defaults bytes v.tree slots v.accepted v.few_slots m
+slots_by one bytes slots (Recheck answer) m v = absurd v
+slots_by one bytes slots (NotBuilt line) m v = no_slots_accepted one defaults bytes v.admitted.tree slots v.admitted.accepted v.admitted.few_slots m
+slots_by one bytes slots FileTooLong m v = absurd v
+slots_by one bytes slots ProofTooLong m v = absurd v
+slots_by one bytes slots (ReadFault name) m v = absurd v
+slots_by one bytes slots OutOfMemory m v = tt
+
+pub slots_ends : OneTree → (call : Call) (content : List ℕ) (slots : ℕ) (ending : Ending) → IsToldFile call content → length content ≤ file_limit → HasManySlots defaults content slots → IsLawful call ending → IsEither (ManySlots slots) ending
+slots_ends one call content slots ending told short m lawful = slots_by one content slots ending m (told_verdict call content ending told short lawful)
+
+-- a file whose program costs too much
+cost_by : OneTree → (bytes : List ℕ) (cost : ℕ) (ending : Ending) → HasHighCost defaults bytes cost → IsVerdict defaults bytes ending → IsEither (HighCost cost) ending
+cost_by one bytes cost (Successful unwind rounds formula log) h v = no_cost_accepted one defaults bytes v.admitted.tree cost v.admitted.accepted v.admitted.low_cost h
+cost_by one bytes cost (Failed kind line schedule) h v = no_cost_accepted one defaults bytes v.admitted.tree cost v.admitted.accepted v.admitted.low_cost h
+cost_by one bytes cost (NotAToken line place) h v = no_tokens bytes h.accepted.of.tokens line place h.accepted.of.are v
+cost_by one bytes cost (NotAProgram line token) h v = no_tree bytes h.tree line token h.accepted.of v
+cost_by one bytes cost (Faulty line rule) h v = no_fault_accepted one bytes h.tree line rule h.accepted v
+cost_by one bytes cost (ManySlots slots) h v = no_slots_accepted one defaults bytes h.tree slots h.accepted h.few_slots v
+cost_by one bytes cost (HighCost n) h v = one_cost one defaults bytes cost n h v
+cost_by one bytes cost (Recheck answer) h v = absurd v
+cost_by one bytes cost (NotBuilt line) h v = no_cost_accepted one defaults bytes v.admitted.tree cost v.admitted.accepted v.admitted.low_cost h
+cost_by one bytes cost FileTooLong h v = absurd v
+cost_by one bytes cost ProofTooLong h v = absurd v
+cost_by one bytes cost (ReadFault name) h v = absurd v
+cost_by one bytes cost OutOfMemory h v = tt
+
+pub cost_ends : OneTree → (call : Call) (content : List ℕ) (cost : ℕ) (ending : Ending) → IsToldFile call content → length content ≤ file_limit → HasHighCost defaults content cost → IsLawful call ending → IsEither (HighCost cost) ending
+cost_ends one call content cost ending told short h lawful = cost_by one content cost ending h (told_verdict call content ending told short lawful)
 
 -- a file without a cut
 same_place : (bytes : List ℕ) (line place l p : ℕ) → HasNoTokens bytes line place → HasNoTokens bytes l p → NotAToken line place ≡ NotAToken l p
@@ -167,6 +238,9 @@ not_a_token_by bytes line place (Successful unwind rounds formula log) none v = 
 not_a_token_by bytes line place (Failed kind l schedule) none v = no_tokens bytes v.form.of.tokens line place v.form.of.are none
 not_a_token_by bytes line place (NotAToken l p) none v = same_place bytes line place l p none v
 not_a_token_by bytes line place (NotAProgram l token) none v = no_tokens bytes v.tokens line place v.are none
+not_a_token_by bytes line place (Faulty l rule) none v = no_tokens bytes v.of.tokens line place v.of.are none
+not_a_token_by bytes line place (ManySlots slots) none v = no_tokens bytes v.accepted.of.tokens line place v.accepted.of.are none
+not_a_token_by bytes line place (HighCost cost) none v = no_tokens bytes v.accepted.of.tokens line place v.accepted.of.are none
 not_a_token_by bytes line place (Recheck answer) none v = absurd v
 not_a_token_by bytes line place (NotBuilt l) none v = no_tokens bytes v.other_form.of.tokens line place v.other_form.of.are none
 not_a_token_by bytes line place FileTooLong none v = absurd v
@@ -187,6 +261,9 @@ not_a_program_by bytes tokens (Failed kind line schedule) are none v = none v.fo
 not_a_program_by bytes tokens (NotAToken line place) are none v = no_tokens bytes tokens line place are v
 not_a_program_by bytes tokens (NotAProgram line token) are none v =
     subst (λ (s : Tokens). IsRefusedAt s token line) (one_tokens bytes v.tokens tokens v.are are) v.refused
+not_a_program_by bytes tokens (Faulty line rule) are none v = none v.tree (tree_here bytes tokens v.tree are v.of)
+not_a_program_by bytes tokens (ManySlots slots) are none v = none v.tree (tree_here bytes tokens v.tree are v.accepted.of)
+not_a_program_by bytes tokens (HighCost cost) are none v = none v.tree (tree_here bytes tokens v.tree are v.accepted.of)
 not_a_program_by bytes tokens (Recheck answer) are none v = v
 not_a_program_by bytes tokens (NotBuilt line) are none v = none v.other_form.tree (tree_here bytes tokens v.other_form.tree are v.other_form.of)
 not_a_program_by bytes tokens FileTooLong are none v = v
@@ -207,6 +284,12 @@ too_long_ends call content (NotAToken line place) told long lawful =
     let same = ap length (source_bytes call content lawful.0 told lawful.1) in let short = lawful.1.within_limit in absurd (omega arith)
 too_long_ends call content (NotAProgram line token) told long lawful =
     let same = ap length (source_bytes call content lawful.0 told lawful.1) in let short = lawful.1.within_limit in absurd (omega arith)
+too_long_ends call content (Faulty line rule) told long lawful =
+    let same = ap length (source_bytes call content lawful.0 told lawful.1) in let short = lawful.1.within_limit in absurd (omega arith)
+too_long_ends call content (ManySlots slots) told long lawful =
+    let same = ap length (source_bytes call content lawful.0 told lawful.1) in let short = lawful.1.within_limit in absurd (omega arith)
+too_long_ends call content (HighCost cost) told long lawful =
+    let same = ap length (source_bytes call content lawful.0 told lawful.1) in let short = lawful.1.within_limit in absurd (omega arith)
 too_long_ends call content (Recheck answer) told long lawful = absurd (one_kind call.words told.name lawful.1.name told.named lawful.1.named)
 too_long_ends call content (NotBuilt line) told long (inl lawful) =
     let same = ap length (source_bytes call content lawful.0 told lawful.1) in let short = lawful.1.within_limit in absurd (omega arith)
@@ -225,6 +308,9 @@ missing_ends call name (Successful unwind rounds formula log) named lacks lawful
 missing_ends call name (Failed kind line schedule) named lacks lawful = absurd (not_lacking call name lawful.0 named lacks lawful.1)
 missing_ends call name (NotAToken line place) named lacks lawful = absurd (not_lacking call name lawful.0 named lacks lawful.1)
 missing_ends call name (NotAProgram line token) named lacks lawful = absurd (not_lacking call name lawful.0 named lacks lawful.1)
+missing_ends call name (Faulty line rule) named lacks lawful = absurd (not_lacking call name lawful.0 named lacks lawful.1)
+missing_ends call name (ManySlots slots) named lacks lawful = absurd (not_lacking call name lawful.0 named lacks lawful.1)
+missing_ends call name (HighCost cost) named lacks lawful = absurd (not_lacking call name lawful.0 named lacks lawful.1)
 missing_ends call name (Recheck answer) named lacks lawful = absurd (one_kind call.words name lawful.1.name named lawful.1.named)
 missing_ends call name (NotBuilt line) named lacks (inl lawful) = absurd (not_lacking call name lawful.0 named lacks lawful.1)
 missing_ends call name (NotBuilt line) named lacks (inr lawful) = absurd (lawful.0 name (inl named))
@@ -239,6 +325,9 @@ no_file_ends call (Successful unwind rounds formula log) none lawful = absurd (n
 no_file_ends call (Failed kind line schedule) none lawful = absurd (none lawful.1.name (inl lawful.1.named))
 no_file_ends call (NotAToken line place) none lawful = absurd (none lawful.1.name (inl lawful.1.named))
 no_file_ends call (NotAProgram line token) none lawful = absurd (none lawful.1.name (inl lawful.1.named))
+no_file_ends call (Faulty line rule) none lawful = absurd (none lawful.1.name (inl lawful.1.named))
+no_file_ends call (ManySlots slots) none lawful = absurd (none lawful.1.name (inl lawful.1.named))
+no_file_ends call (HighCost cost) none lawful = absurd (none lawful.1.name (inl lawful.1.named))
 no_file_ends call (Recheck answer) none lawful = absurd (none lawful.1.name (inr lawful.1.named))
 no_file_ends call (NotBuilt line) none lawful = ap NotBuilt (sym (⊎_elim (λ from. from.2.no_line) (λ words. words.1) lawful))
 no_file_ends call FileTooLong none lawful = absurd (none lawful.name (inl lawful.named))
@@ -268,6 +357,9 @@ rechecked_ends call content (Successful unwind rounds formula log) told short la
 rechecked_ends call content (Failed kind line schedule) told short lawful = one_kind call.words lawful.1.name told.name lawful.1.named told.named
 rechecked_ends call content (NotAToken line place) told short lawful = one_kind call.words lawful.1.name told.name lawful.1.named told.named
 rechecked_ends call content (NotAProgram line token) told short lawful = one_kind call.words lawful.1.name told.name lawful.1.named told.named
+rechecked_ends call content (Faulty line rule) told short lawful = one_kind call.words lawful.1.name told.name lawful.1.named told.named
+rechecked_ends call content (ManySlots slots) told short lawful = one_kind call.words lawful.1.name told.name lawful.1.named told.named
+rechecked_ends call content (HighCost cost) told short lawful = one_kind call.words lawful.1.name told.name lawful.1.named told.named
 rechecked_ends call content (Recheck answer) told short lawful = subst (λ (b : List ℕ). IsRechecked b answer) (proof_bytes call content lawful.0 told lawful.1) lawful.2
 rechecked_ends call content (NotBuilt line) told short (inl lawful) = one_kind call.words lawful.1.name told.name lawful.1.named told.named
 rechecked_ends call content (NotBuilt line) told short (inr lawful) = lawful.0 told.name (inr told.named)
@@ -281,6 +373,9 @@ proof_too_long_ends call content (Successful unwind rounds formula log) told lon
 proof_too_long_ends call content (Failed kind line schedule) told long lawful = absurd (one_kind call.words lawful.1.name told.name lawful.1.named told.named)
 proof_too_long_ends call content (NotAToken line place) told long lawful = absurd (one_kind call.words lawful.1.name told.name lawful.1.named told.named)
 proof_too_long_ends call content (NotAProgram line token) told long lawful = absurd (one_kind call.words lawful.1.name told.name lawful.1.named told.named)
+proof_too_long_ends call content (Faulty line rule) told long lawful = absurd (one_kind call.words lawful.1.name told.name lawful.1.named told.named)
+proof_too_long_ends call content (ManySlots slots) told long lawful = absurd (one_kind call.words lawful.1.name told.name lawful.1.named told.named)
+proof_too_long_ends call content (HighCost cost) told long lawful = absurd (one_kind call.words lawful.1.name told.name lawful.1.named told.named)
 proof_too_long_ends call content (Recheck answer) told long lawful =
     let same = ap length (proof_bytes call content lawful.0 told lawful.1) in let short = lawful.1.within_limit in absurd (omega arith)
 proof_too_long_ends call content (NotBuilt line) told long (inl lawful) = absurd (one_kind call.words lawful.1.name told.name lawful.1.named told.named)
@@ -299,6 +394,9 @@ missing_proof_ends call name (Successful unwind rounds formula log) named lacks 
 missing_proof_ends call name (Failed kind line schedule) named lacks lawful = absurd (one_kind call.words lawful.1.name name lawful.1.named named)
 missing_proof_ends call name (NotAToken line place) named lacks lawful = absurd (one_kind call.words lawful.1.name name lawful.1.named named)
 missing_proof_ends call name (NotAProgram line token) named lacks lawful = absurd (one_kind call.words lawful.1.name name lawful.1.named named)
+missing_proof_ends call name (Faulty line rule) named lacks lawful = absurd (one_kind call.words lawful.1.name name lawful.1.named named)
+missing_proof_ends call name (ManySlots slots) named lacks lawful = absurd (one_kind call.words lawful.1.name name lawful.1.named named)
+missing_proof_ends call name (HighCost cost) named lacks lawful = absurd (one_kind call.words lawful.1.name name lawful.1.named named)
 missing_proof_ends call name (Recheck answer) named lacks lawful = absurd (not_lacking_proof call name lawful.0 named lacks lawful.1)
 missing_proof_ends call name (NotBuilt line) named lacks (inl lawful) = absurd (one_kind call.words lawful.1.name name lawful.1.named named)
 missing_proof_ends call name (NotBuilt line) named lacks (inr lawful) = absurd (lawful.0 name (inr named))

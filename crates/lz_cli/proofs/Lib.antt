@@ -1,3 +1,4 @@
+mod AdmissionLemmas
 pub mod DecideLemmas
 pub mod EndingLemmas
 pub mod ExactnessLemmas

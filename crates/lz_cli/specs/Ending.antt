@@ -13,12 +13,13 @@ use Rattle.lz_cnf.specs.Models.{IsFormula, HasModel}
 use Rattle.lz_log.specs.declared.log.LogStep.{LogStep}
 use Rattle.lz_log.specs.Refutation.{Refutes}
 use Rattle.lz_cli.specs.declared.ending.Ending.{Ending}
-use Rattle.lz_cli.specs.declared.ending.Ending.TheVariants.{Successful, Failed, NotAToken, NotAProgram, Recheck, NotBuilt, FileTooLong, ProofTooLong, ReadFault, OutOfMemory}
+use Rattle.lz_cli.specs.declared.ending.Ending.TheVariants.{Successful, Failed, NotAToken, NotAProgram, Faulty, ManySlots, HighCost, Recheck, NotBuilt, FileTooLong, ProofTooLong, ReadFault, OutOfMemory}
 use Rattle.lz_cli.specs.CommandLine.{IsFileName, IsProofName, IsNamed}
 use Rattle.lz_cli.specs.Recheck.{proof_limit, IsRechecked}
 use Rattle.lz_cli.specs.Source.{HasNoTokens, HasNoTree, IsFirstForm, IsOtherForm}
 use Rattle.lz_base.specs.Limits.{file_limit}
 use Rattle.lz_cli.specs.Limits.{Bounds, defaults}
+use Rattle.lz_cli.specs.Admission.{IsFaulty, HasManySlots, HasHighCost, IsAdmitted}
 
 -- ---- verdicts on the bytes of a file
 
@@ -33,6 +34,7 @@ pub record IsProofOf (bounds : Bounds) (p : Program) (formula : Cnf) (log : List
 -- no run of the program breaks a check within the bounds
 pub record IsSuccess (bounds : Bounds) (bytes : List ℕ) (unwind rounds : ℕ) (formula : Cnf) (log : List LogStep) : Type 0 where
   pub program : Program
+  pub admitted : IsAdmitted bounds bytes
   pub form : IsFirstForm bytes program
   pub told_unwind : unwind ≡ bounds.unwind
   pub told_rounds : rounds ≡ bounds.rounds
@@ -42,6 +44,7 @@ pub record IsSuccess (bounds : Bounds) (bytes : List ℕ) (unwind rounds : ℕ) 
 -- a run of the program follows the schedule and breaks a check of this kind on this line
 pub record IsFailure (bounds : Bounds) (bytes : List ℕ) (kind : BreakKind) (line : ℕ) (schedule : List Step) : Type 0 where
   pub program : Program
+  pub admitted : IsAdmitted bounds bytes
   pub form : IsFirstForm bytes program
   pub run : List Event
   pub is_broken : IsBrokenRun program bounds.unwind run kind line
@@ -49,7 +52,8 @@ pub record IsFailure (bounds : Bounds) (bytes : List ℕ) (kind : BreakKind) (li
   pub within_rounds : rounds_of (threads_of schedule) ≤ bounds.rounds
 
 -- the bytes have a tree of a form that is not built
-pub record IsNotBuilt (bytes : List ℕ) (line : ℕ) : Type 0 where
+pub record IsNotBuilt (bounds : Bounds) (bytes : List ℕ) (line : ℕ) : Type 0 where
+  pub admitted : IsAdmitted bounds bytes
   pub other_form : IsOtherForm bytes
   pub no_line : line ≡ 0
 
@@ -59,8 +63,11 @@ IsVerdict bounds bytes (Successful unwind rounds formula log) = IsSuccess bounds
 IsVerdict bounds bytes (Failed kind line schedule) = IsFailure bounds bytes kind line schedule
 IsVerdict bounds bytes (NotAToken line place) = HasNoTokens bytes line place
 IsVerdict bounds bytes (NotAProgram line token) = HasNoTree bytes line token
+IsVerdict bounds bytes (Faulty line rule) = IsFaulty bytes line rule
+IsVerdict bounds bytes (ManySlots slots) = HasManySlots bounds bytes slots
+IsVerdict bounds bytes (HighCost cost) = HasHighCost bounds bytes cost
 IsVerdict bounds bytes (Recheck answer) = ⊥
-IsVerdict bounds bytes (NotBuilt line) = IsNotBuilt bytes line
+IsVerdict bounds bytes (NotBuilt line) = IsNotBuilt bounds bytes line
 IsVerdict bounds bytes FileTooLong = ⊥
 IsVerdict bounds bytes ProofTooLong = ⊥
 IsVerdict bounds bytes (ReadFault name) = ⊥
@@ -125,6 +132,9 @@ IsLawful call (Successful unwind rounds formula log) = IsFromFile call (Successf
 IsLawful call (Failed kind line schedule) = IsFromFile call (Failed kind line schedule)
 IsLawful call (NotAToken line place) = IsFromFile call (NotAToken line place)
 IsLawful call (NotAProgram line token) = IsFromFile call (NotAProgram line token)
+IsLawful call (Faulty line rule) = IsFromFile call (Faulty line rule)
+IsLawful call (ManySlots slots) = IsFromFile call (ManySlots slots)
+IsLawful call (HighCost cost) = IsFromFile call (HighCost cost)
 IsLawful call (Recheck answer) = (bytes : List ℕ) × IsProofSource call bytes × IsRechecked bytes answer
 IsLawful call (NotBuilt line) = IsFromFile call (NotBuilt line) ⊎ (NamesNoFile call × (line ≡ 0))
 IsLawful call FileTooLong = IsFileTooLong call

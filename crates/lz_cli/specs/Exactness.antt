@@ -8,7 +8,7 @@ use Rattle.lz_tree.specs.FirstFormScopes.{Program}
 use Rattle.lz_parse.specs.Programs.{IsRefusedAt}
 use Rattle.lz_model.specs.Violation.{Violated}
 use Rattle.lz_cli.specs.declared.ending.Ending.{Ending}
-use Rattle.lz_cli.specs.declared.ending.Ending.TheVariants.{Successful, Failed, NotAToken, NotAProgram, Recheck, NotBuilt, FileTooLong, ProofTooLong, ReadFault, OutOfMemory}
+use Rattle.lz_cli.specs.declared.ending.Ending.TheVariants.{Successful, Failed, NotAToken, NotAProgram, Faulty, ManySlots, HighCost, Recheck, NotBuilt, FileTooLong, ProofTooLong, ReadFault, OutOfMemory}
 use Rattle.lz_cli.specs.CommandLine.{IsFileName, IsProofName}
 use Rattle.lz_cli.specs.Recheck.{IsRechecked}
 use Rattle.lz_cli.specs.Limits.{defaults}
@@ -27,6 +27,9 @@ IsDecided p (Successful unwind rounds formula log) = Violated p defaults.unwind 
 IsDecided p (Failed kind line schedule) = Violated p defaults.unwind defaults.rounds
 IsDecided p (NotAToken line place) = ⊥
 IsDecided p (NotAProgram line token) = ⊥
+IsDecided p (Faulty line rule) = ⊥
+IsDecided p (ManySlots slots) = ⊥
+IsDecided p (HighCost cost) = ⊥
 IsDecided p (Recheck answer) = ⊥
 IsDecided p (NotBuilt line) = ⊥
 IsDecided p FileTooLong = ⊥
@@ -46,6 +49,9 @@ IsEither expected (Successful unwind rounds formula log) = expected ≡ Successf
 IsEither expected (Failed kind line schedule) = expected ≡ Failed kind line schedule
 IsEither expected (NotAToken line place) = expected ≡ NotAToken line place
 IsEither expected (NotAProgram line token) = expected ≡ NotAProgram line token
+IsEither expected (Faulty line rule) = expected ≡ Faulty line rule
+IsEither expected (ManySlots slots) = expected ≡ ManySlots slots
+IsEither expected (HighCost cost) = expected ≡ HighCost cost
 IsEither expected (Recheck answer) = expected ≡ Recheck answer
 IsEither expected (NotBuilt line) = expected ≡ NotBuilt line
 IsEither expected FileTooLong = expected ≡ FileTooLong

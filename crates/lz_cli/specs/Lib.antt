@@ -2,6 +2,7 @@ pub mod CommandLine
 pub mod Limits
 pub mod Report
 pub mod Source
+pub mod Admission
 pub mod Ending
 pub mod Command
 pub mod Exactness

@@ -1,4 +1,4 @@
--- Trusted: the bounds of a call on runs, where no word says others.
+-- Trusted: the bounds of a call on runs, where no word says others, and the limits on programs.
 use Rattle.std.specs.Prelude.{ℕ}
 
 -- The bounds of a call: the turns of a loop each time that it is entered, the rounds of a run, and the
@@ -11,3 +11,11 @@ pub record Bounds : Type 0 where
 -- where no word says another
 abbrev pub defaults : Bounds
 defaults = record { unwind = 2; rounds = 2; conflicts = 100000 }
+
+-- the most threads that a program may create within its bounds
+abbrev pub slot_limit : ℕ
+slot_limit = 16
+
+-- the most that a program may cost within its bounds
+abbrev pub cost_limit : ℕ
+cost_limit = 10000000

@@ -7,10 +7,11 @@ use Rattle.lz_base.specs.declared.word.BreakKind.TheVariants.{Assert, Bounds, Di
 use Rattle.lz_model.specs.declared.schedule.Step.{Step}
 use Rattle.lz_model.specs.Rounds.{rounds_of, threads_of}
 use Rattle.lz_cli.specs.declared.ending.Ending.{Ending}
-use Rattle.lz_cli.specs.declared.ending.Ending.TheVariants.{Successful, Failed, NotAToken, NotAProgram, Recheck, NotBuilt, FileTooLong, ProofTooLong, ReadFault, OutOfMemory}
+use Rattle.lz_cli.specs.declared.ending.Ending.TheVariants.{Successful, Failed, NotAToken, NotAProgram, Faulty, ManySlots, HighCost, Recheck, NotBuilt, FileTooLong, ProofTooLong, ReadFault, OutOfMemory}
 use Rattle.lz_cli.specs.declared.evidence.Evidence.{Evidence}
 use Rattle.lz_cli.specs.declared.evidence.Evidence.TheVariants.{Nothing, Proof}
 use Rattle.lz_base.specs.Limits.{file_limit}
+use Rattle.lz_cli.specs.Limits.{slot_limit, cost_limit}
 use Rattle.lz_cli.specs.Recheck.{proof_limit, recheck_line, recheck_status}
 
 -- the word for what breaks
@@ -40,6 +41,9 @@ report (Failed kind line schedule) =
     ++ codes "\nrounds " ++ decimal (rounds_of (threads_of schedule)) ++ codes "\n" ++ flat_map step_line schedule
 report (NotAToken line place) = codes "SOURCE line " ++ decimal line ++ codes " byte " ++ decimal place ++ codes ": not a token\n"
 report (NotAProgram line token) = codes "SOURCE line " ++ decimal line ++ codes " token " ++ decimal token ++ codes ": not a program\n"
+report (Faulty line rule) = codes "SOURCE line " ++ decimal line ++ codes " rule " ++ decimal rule ++ codes "\n"
+report (ManySlots slots) = codes "LIMIT slots " ++ decimal slots ++ codes " over " ++ decimal slot_limit ++ codes "\n"
+report (HighCost cost) = codes "LIMIT cost " ++ decimal cost ++ codes " over " ++ decimal cost_limit ++ codes "\n"
 report (Recheck answer) = recheck_line answer
 report (NotBuilt line) = codes "NOTBUILT line " ++ decimal line ++ codes "\n"
 report FileTooLong = codes "LIMIT file over " ++ decimal file_limit ++ codes " bytes\n"
@@ -53,6 +57,9 @@ status_of (Successful unwind rounds formula log) = 0
 status_of (Failed kind line schedule) = 1
 status_of (NotAToken line place) = 4
 status_of (NotAProgram line token) = 4
+status_of (Faulty line rule) = 4
+status_of (ManySlots slots) = 5
+status_of (HighCost cost) = 5
 status_of (Recheck answer) = recheck_status answer
 status_of (NotBuilt line) = 12
 status_of FileTooLong = 5
@@ -66,6 +73,9 @@ evidence_of (Successful unwind rounds formula log) = Proof formula log
 evidence_of (Failed kind line schedule) = Nothing
 evidence_of (NotAToken line place) = Nothing
 evidence_of (NotAProgram line token) = Nothing
+evidence_of (Faulty line rule) = Nothing
+evidence_of (ManySlots slots) = Nothing
+evidence_of (HighCost cost) = Nothing
 evidence_of (Recheck answer) = Nothing
 evidence_of (NotBuilt line) = Nothing
 evidence_of FileTooLong = Nothing
@@ -79,6 +89,9 @@ IsPrintable (Failed kind line schedule) = rounds_of (threads_of schedule) < 2 ^ 
 IsPrintable (Successful unwind rounds formula log) = ⊤
 IsPrintable (NotAToken line place) = ⊤
 IsPrintable (NotAProgram line token) = ⊤
+IsPrintable (Faulty line rule) = ⊤
+IsPrintable (ManySlots slots) = ⊤
+IsPrintable (HighCost cost) = ⊤
 IsPrintable (Recheck answer) = ⊤
 IsPrintable (NotBuilt line) = ⊤
 IsPrintable FileTooLong = ⊤

@@ -10,13 +10,14 @@ ghost use Rattle.lz_tree.specs.Tokens.{HasTokens};
 ghost use Rattle.lz_tree.specs.Trees.{translation_unit};
 ghost use Rattle.lz_tree.specs.FirstFormScopes.{program, IsWellFormed};
 ghost use Rattle.lz_cli.specs.Source.{HasTree, IsFirstForm};
+ghost use Rattle.lz_cli.specs.Admission.{IsAccepted, IsAdmitted};
 ghost use Rattle.lz_cli.specs.Command.{output_of, IsDeliveredOrCutOff, Answers};
 
 use crate::command_line::{Words, file_name, proof_name};
 use crate::decide::{Decided, decide};
 use crate::ending::Ending;
 use crate::evidence::Evidence;
-use crate::limits::{DEFAULT_ROUNDS, DEFAULT_UNWIND};
+use crate::limits::{COST_LIMIT, DEFAULT_ROUNDS, DEFAULT_UNWIND, SLOT_LIMIT};
 use crate::recheck::{PROOF_LIMIT, recheck};
 use crate::refutation::refutation;
 use crate::report::{MEMORY_REPORT, print, status};
@@ -25,8 +26,11 @@ use lz_form::first_form;
 use lz_lex::{LexError, lex};
 use lz_outside::{Failed, Folder, ReadError, Sink, read_all, write_all};
 use lz_parse::{ParseError, parse};
+use lz_scopes::TypeError;
+use lz_slots::{cost, slots};
 use lz_tree::first_form::Scoped;
 use lz_tree::{Program, Tokens};
+use lz_types::{Checked, check};
 use std::alloc::Global;
 
 /// How a call ended: the status that the program ends with, and what shows that the verdict is right.
@@ -157,15 +161,50 @@ fn judge_tokens(alloc: Global, tokens: &Tokens) -> Result<Ending, Memory>
     ensures printable { IfOk result IsPrintable }
 {
     match parse(alloc, tokens) {
-        Ok(program) => judge_program(alloc, &program),
+        Ok(program) => judge_program(alloc, program),
         Err(ParseError::NotAProgram { token, line }) => Ok(Ending::NotAProgram { line, token }),
         Err(ParseError::Memory) => Err(Memory),
     }
 }
 
 /// The verdict on the program of a file.
-fn judge_program(alloc: Global, program: &Program) -> Result<Ending, Memory>
-    ensures verdict { IfOk result (λ ending. (bytes : List ℕ) → HasTree bytes (translation_unit program.now) → IsVerdict defaults bytes ending) }
+fn judge_program(alloc: Global, program: Program) -> Result<Ending, Memory>
+    ensures verdict { IfOk result (λ ending. (bytes : List ℕ) → HasTree bytes (translation_unit program) → IsVerdict defaults bytes ending) }
+    ensures printable { IfOk result IsPrintable }
+{
+    match check(alloc, program) {
+        Ok(checked) => judge_checked(alloc, &checked),
+        Err(TypeError::Rule { line, number }) => Ok(Ending::Faulty { line, rule: number }),
+        Err(TypeError::Memory) => Err(Memory),
+    }
+}
+
+/// The verdict on a program that breaks no rule.
+fn judge_checked(alloc: Global, checked: &Checked) -> Result<Ending, Memory>
+    requires { IsChecked checked.now }
+    ensures verdict { IfOk result (λ ending. (bytes : List ℕ) → IsAccepted bytes (translation_unit checked.now.program) → IsVerdict defaults bytes ending) }
+    ensures printable { IfOk result IsPrintable }
+{
+    let slots = slots(alloc, checked.scoped(), checked.order(), DEFAULT_UNWIND)?;
+    if slots > SLOT_LIMIT {
+        return Ok(Ending::ManySlots { slots });
+    }
+    let cost = cost(
+        alloc,
+        checked.scoped(),
+        checked.order(),
+        DEFAULT_UNWIND,
+        DEFAULT_ROUNDS,
+    )?;
+    if cost > COST_LIMIT {
+        return Ok(Ending::HighCost { cost });
+    }
+    judge_admitted(alloc, checked.program())
+}
+
+/// The verdict on a program within the limits.
+fn judge_admitted(alloc: Global, program: &Program) -> Result<Ending, Memory>
+    ensures verdict { IfOk result (λ ending. (bytes : List ℕ) → IsAdmitted defaults bytes → HasTree bytes (translation_unit program.now) → IsVerdict defaults bytes ending) }
     ensures printable { IfOk result IsPrintable }
 {
     match first_form(alloc, program)? {
@@ -177,7 +216,7 @@ fn judge_program(alloc: Global, program: &Program) -> Result<Ending, Memory>
 /// The verdict on a program of the first form.
 fn judge_form(alloc: Global, scoped: &Scoped) -> Result<Ending, Memory>
     requires { IsWellFormed (program scoped.now) }
-    ensures verdict { IfOk result (λ ending. (bytes : List ℕ) → IsFirstForm bytes (program scoped.now) → IsVerdict defaults bytes ending) }
+    ensures verdict { IfOk result (λ ending. (bytes : List ℕ) → IsAdmitted defaults bytes → IsFirstForm bytes (program scoped.now) → IsVerdict defaults bytes ending) }
     ensures printable { IfOk result IsPrintable }
 {
     match decide(alloc, scoped)? {

@@ -32,6 +32,19 @@ pub enum Ending {
         line: u32,
         token: u32,
     },
+    /// The program of the file breaks this rule on this line, before every other one that it breaks.
+    Faulty {
+        line: u32,
+        rule: u32,
+    },
+    /// The program of the file can create so many threads, which are over the limit.
+    ManySlots {
+        slots: u64,
+    },
+    /// The program of the file costs so much, which is over the limit.
+    HighCost {
+        cost: u64,
+    },
     /// A proof file was rechecked.
     Recheck {
         answer: Rechecked,
@@ -74,6 +87,9 @@ impl Ending {
             } => Evidence::Nothing,
             Ending::NotAToken { line: _, place: _ } => Evidence::Nothing,
             Ending::NotAProgram { line: _, token: _ } => Evidence::Nothing,
+            Ending::Faulty { line: _, rule: _ } => Evidence::Nothing,
+            Ending::ManySlots { slots: _ } => Evidence::Nothing,
+            Ending::HighCost { cost: _ } => Evidence::Nothing,
             Ending::Recheck { answer: _ } => Evidence::Nothing,
             Ending::NotBuilt { line: _ } => Evidence::Nothing,
             Ending::FileTooLong => Evidence::Nothing,

@@ -12,6 +12,8 @@ ghost use Rattle.lz_cli.specs.declared.ending.Ending.{Ending};
 ghost use Rattle.lz_cli.specs.CommandLine.{IsFileName, IsProofName};
 ghost use Rattle.lz_base.specs.Limits.{file_limit};
 ghost use Rattle.lz_cli.specs.Source.{HasNoTokens, IsFirstForm, IsOtherForm};
+ghost use Rattle.lz_cli.specs.Limits.{defaults};
+ghost use Rattle.lz_cli.specs.Admission.{IsFaulty, HasManySlots, HasHighCost, IsAdmitted};
 ghost use Rattle.lz_cli.specs.Ending.{Call, IsLawful, NamesNoFile};
 ghost use Rattle.lz_cli.specs.Recheck.{proof_limit};
 ghost use Rattle.lz_cli.specs.Exactness.{IsToldFile, IsToldProof, IsAnswer, IsDecided, IsRefusal, IsEither};
@@ -21,12 +23,24 @@ use lz_parse::one_program;
 /// What a lawful ending is, in every call where the folder tells the named file and no read failed, and where
 /// no file is named or the told files lack it.
 pub fn endings_are_exact()
-    // A file of the first form, within the limit, is decided.
+    // A file of the first form, within the limits, which breaks no rule, is decided.
     ensures decided { (call : Call) (content : List ℕ) (p : Program) (ending : Ending) → IsToldFile call content
-        → length content ≤ file_limit → IsFirstForm content p → IsLawful call ending → IsDecided p ending }
-    // A file whose tree has another form, within the limit, is not built.
+        → length content ≤ file_limit → IsAdmitted defaults content → IsFirstForm content p → IsLawful call ending → IsDecided p ending }
+    // A file whose tree has another form, within the limits, which breaks no rule, is not built.
     ensures not_built { (call : Call) (content : List ℕ) (ending : Ending) → IsToldFile call content
-        → length content ≤ file_limit → IsOtherForm content → IsLawful call ending → IsEither (Ending.NotBuilt 0) ending }
+        → length content ≤ file_limit → IsAdmitted defaults content → IsOtherForm content → IsLawful call ending → IsEither (Ending.NotBuilt 0) ending }
+    // Of a file whose program breaks a rule, the first one is told,
+    ensures faulty { (call : Call) (content : List ℕ) (line rule : ℕ) (ending : Ending) → IsToldFile call content
+        → length content ≤ file_limit → IsFaulty content line rule → IsLawful call ending
+        → IsEither (Ending.Faulty line rule) ending }
+    // of one that breaks none and has too many slots, how many,
+    ensures many_slots { (call : Call) (content : List ℕ) (slots : ℕ) (ending : Ending) → IsToldFile call content
+        → length content ≤ file_limit → HasManySlots defaults content slots → IsLawful call ending
+        → IsEither (Ending.ManySlots slots) ending }
+    // and of one that costs too much, how much.
+    ensures high_cost { (call : Call) (content : List ℕ) (cost : ℕ) (ending : Ending) → IsToldFile call content
+        → length content ≤ file_limit → HasHighCost defaults content cost → IsLawful call ending
+        → IsEither (Ending.HighCost cost) ending }
     // Of a file without a cut, within the limit, the place is told where the longest cut ends.
     ensures not_a_token { (call : Call) (content : List ℕ) (line place : ℕ) (ending : Ending) → IsToldFile call content
         → length content ≤ file_limit → HasNoTokens content line place → IsLawful call ending

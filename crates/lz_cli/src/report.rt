@@ -9,6 +9,7 @@ ghost use Rattle.lz_cli.specs.Recheck.{recheck_line};
 ghost use Rattle.lz_cli.specs.Report.{report, success_line, kind_word, step_line, status_of, IsPrintable};
 
 use crate::ending::Ending;
+use crate::limits::{COST_LIMIT, SLOT_LIMIT};
 use crate::recheck::{PROOF_LIMIT, Rechecked};
 use lz_base::{BreakKind, Bytes, FILE_LIMIT, Memory, Name};
 use lz_model::{Schedule, Step, rounds};
@@ -33,6 +34,9 @@ pub fn print(alloc: Global, ending: &Ending) -> Result<Bytes, Memory>
         } => failed(alloc, *kind, *line, schedule),
         Ending::NotAToken { line, place } => not_a_token(alloc, *line, *place),
         Ending::NotAProgram { line, token } => not_a_program(alloc, *line, *token),
+        Ending::Faulty { line, rule } => faulty(alloc, *line, *rule),
+        Ending::ManySlots { slots } => over(alloc, b"LIMIT slots ", *slots, SLOT_LIMIT),
+        Ending::HighCost { cost } => over(alloc, b"LIMIT cost ", *cost, COST_LIMIT),
         Ending::Recheck { answer } => rechecked(alloc, *answer),
         Ending::NotBuilt { line } => not_built(alloc, *line),
         Ending::FileTooLong => file_too_long(alloc),
@@ -91,6 +95,31 @@ fn not_a_program(alloc: Global, line: u32, token: u32) -> Result<Bytes, Memory>
     text.append(b" token ")?;
     text.append_number(u64::from(token))?;
     text.append(b": not a program\n")?;
+    Ok(text)
+}
+
+fn faulty(alloc: Global, line: u32, rule: u32) -> Result<Bytes, Memory>
+    ensures { IfOk result (λ text. text ≡ report (Ending.Faulty line rule)) }
+{
+    let mut text = Bytes::new(alloc);
+    text.append(b"SOURCE line ")?;
+    text.append_number(u64::from(line))?;
+    text.append(b" rule ")?;
+    text.append_number(u64::from(rule))?;
+    text.append(b"\n")?;
+    Ok(text)
+}
+
+/// A line of words, a number and the limit that it is over.
+fn over(alloc: Global, words: &[u8], number: u64, limit: u64) -> Result<Bytes, Memory>
+    ensures { IfOk result (λ text. text ≡ words.now ++ decimal number ++ codes " over " ++ decimal limit ++ codes "\n") }
+{
+    let mut text = Bytes::new(alloc);
+    text.append(words)?;
+    text.append_number(number)?;
+    text.append(b" over ")?;
+    text.append_number(limit)?;
+    text.append(b"\n")?;
     Ok(text)
 }
 
@@ -246,6 +275,9 @@ pub fn status(ending: &Ending) -> u8
         } => 1,
         Ending::NotAToken { line: _, place: _ } => 4,
         Ending::NotAProgram { line: _, token: _ } => 4,
+        Ending::Faulty { line: _, rule: _ } => 4,
+        Ending::ManySlots { slots: _ } => 5,
+        Ending::HighCost { cost: _ } => 5,
         Ending::Recheck { answer } => recheck_status(*answer),
         Ending::NotBuilt { line: _ } => 12,
         Ending::FileTooLong => 5,
