@@ -11,8 +11,6 @@ mod limits;
 mod recheck;
 mod refutation;
 mod report;
-#[cfg(test)]
-mod tests;
 
 pub use command::{Ended, end_out_of_memory, run};
 pub use command_line::Words;

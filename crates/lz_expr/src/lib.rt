@@ -17,6 +17,3 @@ pub use parse::{line_of, one_expression, parse_expression};
 pub use refusal::Refusal;
 pub use token::{begins, begins_key, is_key, is_mark, key, line_at, mark, name};
 pub use typename::{integer_key, more_words};
-
-#[cfg(test)]
-mod tests;

@@ -26,6 +26,3 @@ pub fn one_statement()
 pub fn one_declaration()
     ensures { (h : ℕ) (d e : Declaration) (ts : List Token) → InDeclaration h d ts → InDeclaration h e ts → d ≡ e }
 {}
-
-#[cfg(test)]
-mod tests;

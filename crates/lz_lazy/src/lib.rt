@@ -7,6 +7,3 @@ mod encode;
 mod rounds;
 
 pub use rounds::sequentialize;
-
-#[cfg(test)]
-mod tests;

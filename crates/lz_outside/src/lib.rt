@@ -19,6 +19,3 @@ pub use real_folder::RealFolder;
 pub use real_sink::RealSink;
 pub use sink::Sink;
 pub use writing::{write_all, write_file};
-
-#[cfg(test)]
-mod tests;

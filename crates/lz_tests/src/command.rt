@@ -1,8 +1,8 @@
 //! What the command prints and answers, over a folder and a sink in memory. The expected texts were
 //! worked out by hand.
 
-use super::*;
 use lz_base::{Bytes, Memory, Name};
+use lz_cli::{Ended, Evidence, Words, run};
 use lz_outside::{Calls, File, Files, MemoryFolder, MemorySink};
 use std::alloc::Global;
 use std::process::Abort;

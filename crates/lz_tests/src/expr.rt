@@ -1,81 +1,10 @@
-use super::*;
-use lz_base::{Name, Sequence};
-use lz_tree::{Binary, Expr, Form, Keyword, Punct, Token, TokenKind, Tokens, TypeName, Unary};
+//! Expressions: what is read of a row of tokens, and the token at which it ends or that is refused.
+
+use crate::letters::tokens_of;
+use lz_expr::{ParseError, parse_expression};
+use lz_tree::{Binary, Expr, TypeName, Unary};
 use std::alloc::Global;
 use std::test::*;
-
-/// The token that a letter stands for.
-fn token_of(letter: u8) -> TokenKind {
-    let form = Form {
-        decimal: true,
-        unsigned: false,
-        longs: 0,
-    };
-    let mark = match letter {
-        b'(' => Punct::OpenParen,
-        b')' => Punct::CloseParen,
-        b'[' => Punct::OpenBracket,
-        b']' => Punct::CloseBracket,
-        b'{' => Punct::OpenBrace,
-        b'}' => Punct::CloseBrace,
-        b';' => Punct::Semicolon,
-        b',' => Punct::Comma,
-        b':' => Punct::Colon,
-        b'?' => Punct::Question,
-        b'=' => Punct::Assign,
-        b'@' => Punct::AddAssign,
-        b'|' => Punct::OrOr,
-        b'&' => Punct::AndAnd,
-        b'$' => Punct::And,
-        b'<' => Punct::Less,
-        b'+' => Punct::Plus,
-        b'-' => Punct::Minus,
-        b'*' => Punct::Star,
-        b'/' => Punct::Slash,
-        b'!' => Punct::Not,
-        b'#' => Punct::Increment,
-        b'_' => Punct::Decrement,
-        b'I' => return TokenKind::Keyword { word: Keyword::Int },
-        b'U' => return TokenKind::Keyword {
-            word: Keyword::Unsigned,
-        },
-        b'L' => return TokenKind::Keyword {
-            word: Keyword::Long,
-        },
-        b'V' => return TokenKind::Keyword {
-            word: Keyword::Void,
-        },
-        b'N' => return TokenKind::Keyword {
-            word: Keyword::Null,
-        },
-        b'T' => return TokenKind::Text,
-        b'1' => return TokenKind::Constant { value: 1, form },
-        other => return TokenKind::Name {
-            number: other as u32,
-        },
-    };
-    TokenKind::Punct { mark }
-}
-
-/// One token a letter, each on a line of its own.
-fn tokens_of(alloc: Global, letters: &str) -> Result<Tokens, lz_base::Memory> {
-    let mut list = Sequence::new(alloc);
-    let mut line = 1u32;
-    for letter in letters.as_bytes() {
-        let kind = token_of(*letter);
-        list.push(Token {
-            kind,
-            line,
-            place: 0,
-        })?;
-        line = line.saturating_add(1);
-    }
-    Ok(Tokens {
-        list,
-        names: Sequence::new(alloc),
-        end_line: line,
-    })
-}
 
 /// The expression with each node in parentheses.
 #[cycle(shape)]
@@ -83,8 +12,8 @@ fn shape(of: &Expr, text: &mut String) -> Result<(), std::alloc::AllocError> {
     text.push_str("(")?;
     match of {
         Expr::Constant { .. } => text.push_str("1")?,
-        Expr::Null { .. } => text.push_str("N")?,
-        Expr::Text { .. } => text.push_str("T")?,
+        Expr::Null { .. } => text.push_str("O")?,
+        Expr::Text { .. } => text.push_str("\"")?,
         Expr::Object { target } => index_shape(&target.index, text)?,
         Expr::Address { target, .. } => {
             text.push_str("$")?;
@@ -102,8 +31,8 @@ fn shape(of: &Expr, text: &mut String) -> Result<(), std::alloc::AllocError> {
         }
         Expr::Cast { to, of, .. } => {
             text.push_str(match to {
-                TypeName::Int => "I",
-                TypeName::UnsignedLongLongInt => "ULLI",
+                TypeName::Int => "N",
+                TypeName::UnsignedLongLongInt => "ULLN",
                 TypeName::VoidPointer => "V*",
                 _ => "?",
             })?;
@@ -183,7 +112,7 @@ fn index_shape(index: &Option<Box<Expr>>, text: &mut String) -> Result<(), std::
 
 /// What is answered for the letters: the shape and the token behind it, or the refused token and its line.
 fn answer(alloc: Global, letters: &str, height: u32, assign: bool) -> Result<String, Fail> {
-    let tokens = tokens_of(alloc, letters)?;
+    let tokens = tokens_of(alloc, letters.as_bytes())?;
     if height == 0 || tokens.list.items().len() > 1000 {
         return Ok(String::new(alloc));
     }
@@ -202,7 +131,7 @@ fn answer(alloc: Global, letters: &str, height: u32, assign: bool) -> Result<Str
 fn expressions(rt: HostRuntime) -> Result<(), Fail> {
     for (letters, wanted, why) in [
         ("1", "(1) 1", "a constant"),
-        ("N;", "(N) 1", "what cannot go on ends it"),
+        ("O;", "(O) 1", "what cannot go on ends it"),
         (
             "a-b-c",
             "(((o)-(o))-(o)) 5",
@@ -212,11 +141,11 @@ fn expressions(rt: HostRuntime) -> Result<(), Fail> {
         ("a|b&c", "((o)|((o)&(o))) 5", "`&&` is tighter than `||`"),
         ("(a+b)*c", "((((o)+(o)))*(o)) 7", "parentheses are nodes"),
         (
-            "(I)a+b",
-            "((I(o))+(o)) 6",
+            "(N)a+b",
+            "((N(o))+(o)) 6",
             "a cast takes a unary expression",
         ),
-        ("(ULLI)-a", "(ULLI(-(o))) 8", "a type of four words"),
+        ("(ULLN)-a", "(ULLN(-(o))) 8", "a type of four words"),
         ("(V*)1", "(V*(1)) 5", "`void *`"),
         ("(V)1", "no 2 3", "`void` alone is no type of a cast"),
         (
@@ -286,7 +215,7 @@ fn heights(rt: HostRuntime) -> Result<(), Fail> {
         ("a?b:c", 1, "(o) 1", "no room for a choice"),
         ("$a", 1, "($o) 2", "an address has no part"),
         ("!a", 1, "no 0 1", "no room for an operand"),
-        ("(I)a", 1, "no 0 1", "nor for that of a cast"),
+        ("(N)a", 1, "no 0 1", "nor for that of a cast"),
     ] {
         assert_eq!(rt;
             answer(rt.alloc(), letters, height, true)?.as_str(),

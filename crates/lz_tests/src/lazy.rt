@@ -1,14 +1,16 @@
+//! The rounds of two threads: which inputs lead to a break.
+
 ghost use Rattle.std.specs.Prelude.{◌≡◌, IfOk, [], ◌∷◌, true, length, map, All};
 ghost use Rattle.lz_flat.specs.Programs.{expression, instruction, marked, flat_program, straight_program};
 ghost use Rattle.lz_flat.specs.WellFormed.{IsWord, IsWellFormed};
 ghost use Rattle.lz_lazy.specs.Example.{example, zero_test};
 
-use crate::sequentialize;
 use lz_base::{Binary, BreakKind, IntType, Memory, Sequence, Values};
 use lz_flat::{
     Flat, FlatExpr, FlatThread, FlatThreads, Instr, Marked, Spot, Straight, binary_expr,
     straight_run,
 };
+use lz_lazy::sequentialize;
 use std::alloc::Global;
 use std::test::Fail;
 

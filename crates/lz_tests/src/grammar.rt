@@ -1,84 +1,15 @@
-use super::*;
+//! Statements, declarations and parameters: what is read of a row of tokens, with the lines that trees keep, and where
+//! it ends, or the refused token.
+
+use crate::letters::tokens_of;
 use lz_expr::Refusal;
-use lz_tree::{
-    Declarator, Expr, First, Form, Keyword, Objects, Param, Punct, Stmt, Token, TokenKind, TypeName,
-};
+use lz_grammar::{read_params, read_statement};
+use lz_tree::{Declarator, Expr, First, Objects, Param, Stmt, TypeName};
 use std::alloc::{AllocError, Global};
 use std::test::*;
 
 /// The height that a program may have.
 const HEIGHT: u32 = 200;
-
-/// The punctuator, the constant or the name that a letter stands for.
-fn other_of(letter: u8) -> TokenKind {
-    let mark = match letter {
-        b'(' => Punct::OpenParen,
-        b')' => Punct::CloseParen,
-        b'{' => Punct::OpenBrace,
-        b'}' => Punct::CloseBrace,
-        b'[' => Punct::OpenBracket,
-        b']' => Punct::CloseBracket,
-        b';' => Punct::Semicolon,
-        b',' => Punct::Comma,
-        b':' => Punct::Colon,
-        b'=' => Punct::Assign,
-        b'*' => Punct::Star,
-        b'1' => {
-            let form = Form {
-                decimal: true,
-                unsigned: false,
-                longs: 0,
-            };
-            return TokenKind::Constant { value: 1, form };
-        }
-        other => return TokenKind::Name {
-            number: other as u32,
-        },
-    };
-    TokenKind::Punct { mark }
-}
-
-/// The token that a letter stands for: a large one is a keyword.
-fn token_of(letter: u8) -> TokenKind {
-    let word = match letter {
-        b'I' => Keyword::If,
-        b'E' => Keyword::Else,
-        b'W' => Keyword::While,
-        b'D' => Keyword::Do,
-        b'F' => Keyword::For,
-        b'B' => Keyword::Break,
-        b'C' => Keyword::Continue,
-        b'R' => Keyword::Return,
-        b'N' => Keyword::Int,
-        b'U' => Keyword::Unsigned,
-        b'L' => Keyword::Long,
-        b'V' => Keyword::Void,
-        b'T' => Keyword::Thread,
-        b'M' => Keyword::Mutex,
-        b'K' => Keyword::Cond,
-        b'X' => Keyword::MutexInitializer,
-        b'Y' => Keyword::CondInitializer,
-        b'Z' => Keyword::Case,
-        other => return other_of(other),
-    };
-    TokenKind::Keyword { word }
-}
-
-/// One token a letter, each on a line of its own.
-fn tokens_of(alloc: Global, letters: &[u8]) -> Result<Vec<Token>, AllocError> {
-    let mut list = Vec::new(alloc);
-    let mut line = 1u32;
-    for letter in letters {
-        let kind = token_of(*letter);
-        list.push(Token {
-            kind,
-            line,
-            place: 0,
-        })?;
-        line = line.saturating_add(1);
-    }
-    Ok(list)
-}
 
 /// The letter of a name.
 fn letter(name: u32) -> &'static str {
@@ -296,25 +227,25 @@ fn told(
 }
 
 /// What is answered for a statement.
-fn statement_answer(alloc: Global, letters: &[u8], height: u32) -> Result<String, AllocError> {
+fn statement_answer(alloc: Global, letters: &[u8], height: u32) -> Result<String, Fail> {
     let tokens = tokens_of(alloc, letters)?;
-    let read = match read_statement(alloc, &tokens, height) {
+    let read = match read_statement(alloc, tokens.list.items(), height) {
         Ok((of, rest)) => Ok((statement_shape(alloc, &of)?, rest.len())),
         Err(refusal) => Err(refusal),
     };
-    told(alloc, letters.len(), read)
+    Ok(told(alloc, letters.len(), read)?)
 }
 
 /// What is answered for parameters.
-fn params_answer(alloc: Global, letters: &[u8]) -> Result<String, AllocError> {
+fn params_answer(alloc: Global, letters: &[u8]) -> Result<String, Fail> {
     let tokens = tokens_of(alloc, letters)?;
-    let read = match read_params(alloc, &tokens) {
+    let read = match read_params(alloc, tokens.list.items()) {
         Ok((params, void_word, rest)) => {
             Ok((params_shape(alloc, params.items(), void_word)?, rest.len()))
         }
         Err(refusal) => Err(refusal),
     };
-    told(alloc, letters.len(), read)
+    Ok(told(alloc, letters.len(), read)?)
 }
 
 #[test]
@@ -500,13 +431,13 @@ fn nested(
 }
 
 /// Where a statement ends, or the refused token.
-fn end_of(alloc: Global, letters: &[u8]) -> Result<String, AllocError> {
+fn end_of(alloc: Global, letters: &[u8]) -> Result<String, Fail> {
     let tokens = tokens_of(alloc, letters)?;
-    let read = match read_statement(alloc, &tokens, HEIGHT) {
+    let read = match read_statement(alloc, tokens.list.items(), HEIGHT) {
         Ok((_, rest)) => Ok((format!(in alloc; "to")?, rest.len())),
         Err(refusal) => Err(refusal),
     };
-    told(alloc, letters.len(), read)
+    Ok(told(alloc, letters.len(), read)?)
 }
 
 /// The highest statement of each kind is read, and the next higher one refused where its height shows.

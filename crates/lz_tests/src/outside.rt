@@ -1,7 +1,12 @@
+//! Whole files and whole reports, over memory, over a folder that drips, and over the system.
+
 ghost use Rattle.std.specs.Prelude.{◌≡◌, ◌≤◌, ℕ, Option, None, List, length};
 
-use super::*;
 use lz_base::{Bytes, Memory, Name};
+use lz_outside::{
+    Calls, Failed, File, Files, Folder, MemoryFolder, MemorySink, ReadError, RealFolder, RealSink,
+    Sink, read_all, write_all, write_file,
+};
 use std::alloc::Global;
 use std::fs;
 use std::test::Fail;
