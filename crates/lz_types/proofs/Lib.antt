@@ -1,3 +1,4 @@
+mod ExternalLemmas
 mod StatementLemmas
 mod WalkLemmas
 mod Witnesses

@@ -2,5 +2,10 @@
 #![tactic(auto)]
 
 mod declarations;
+mod externals;
 mod note;
+mod params;
+mod statements;
 mod walk;
+
+pub use externals::file_faults;
