@@ -1,10 +1,10 @@
-ghost use Rattle.std.specs.Prelude.{◌≡◌, ◌++◌, ℕ, not, ◌&&◌, ◌||◌, map, slice_get, IfOk, OnOk};
+ghost use Rattle.std.specs.Prelude.{◌≡◌, ◌++◌, not, ◌&&◌, ◌||◌, map, slice_get, IfOk, OnOk};
 ghost use Rattle.lz_tree.specs.Trees.{statement, external_declaration};
 ghost use Rattle.lz_scopes.specs.Scopes as scopes;
 ghost use Rattle.lz_scopes.specs.Files.{function_named};
 ghost use Rattle.lz_scopes.specs.ValueTypes.{is_pointer, value_type};
 ghost use Rattle.lz_types.specs.Faults as spec;
-ghost use Rattle.lz_types.specs.Parts.{prototype_faults, function_faults, behind_function};
+ghost use Rattle.lz_types.specs.Parts.{has_start_form, prototype_faults, function_faults, behind_function};
 
 use crate::declarations::{is_declared_here, walk_declaration};
 use crate::note::push_when;
@@ -19,13 +19,7 @@ use lz_tree::{External, Param, Stmt, TypeName};
 use std::alloc::Global;
 
 /// Whether a prototype differs from the function of its name, if the file has one with a body.
-fn differs(
-    file: &WholeFile,
-    gives: TypeName,
-    name: u32,
-    params: &[Param],
-    void_word: bool,
-) -> bool
+fn differs(file: &WholeFile, gives: TypeName, name: u32, params: &[Param], void_word: bool) -> bool
     ensures { result ≡ spec.is_other gives (scopes.bases params.now) void_word (spec.definition file.now name) }
 {
     match file.function_named(name) {
@@ -36,7 +30,7 @@ fn differs(
 
 /// Whether the result is a `void *` of a function that has not the form of a start routine.
 fn is_stray_pointer(gives: TypeName, params: &[Param]) -> bool
-    ensures { (name : ℕ) → result ≡ (is_pointer (value_type gives) && not (scopes.is_start_form name gives params.now)) }
+    ensures { result ≡ (is_pointer (value_type gives) && not (has_start_form gives params.now)) }
 {
     value_type(gives).is_pointer() && !is_start_form(gives, params)
 }
@@ -56,7 +50,12 @@ fn note_prototype(
     ensures { OnOk result (faults.new.items ≡ faults.old.items ++ spec.at line (spec.prototype_rules file.now place.now gives name params.now void_word)) }
 {
     let of = value_type(gives);
-    push_when(faults, line, is_declared_here(place, name), Rule::DeclaredTwice)?;
+    push_when(
+        faults,
+        line,
+        is_declared_here(place, name),
+        Rule::DeclaredTwice,
+    )?;
     push_when(faults, line, of.is_no_operand(), Rule::TypeMisfit)?;
     let pointer = is_stray_pointer(gives, params);
     push_when(faults, line, pointer, Rule::PointerOutsideStart)?;
@@ -174,7 +173,9 @@ fn walk_external(
             ..
         } => {
             let params = params.items();
-            walk_prototype(file, place, *line, *gives, *name, params, *void_word, faults)
+            walk_prototype(
+                file, place, *line, *gives, *name, params, *void_word, faults,
+            )
         }
         External::Function {
             line,

@@ -1,8 +1,8 @@
-ghost use Rattle.std.specs.Prelude.{◌≡◌, ◌++◌, ℕ, OnOk, slice_get};
+ghost use Rattle.std.specs.Prelude.{◌≡◌, ◌++◌, not, OnOk, slice_get};
 ghost use Rattle.lz_scopes.specs.Scopes as scopes;
 ghost use Rattle.lz_scopes.specs.ValueTypes as values;
 ghost use Rattle.lz_types.specs.Faults as spec;
-ghost use Rattle.lz_types.specs.Parts.{params_differ};
+ghost use Rattle.lz_types.specs.Parts.{params_differ, has_start_form, is_one_at};
 
 use crate::declarations::is_declared_here;
 use crate::note::push_when;
@@ -76,7 +76,7 @@ fn walk_param(
 
 /// Notes the faults of parameters in their order, and declares them, in a function that has the form of a start
 /// routine or not.
-#[tactic(auto, unfolding(crate::specs::Faults::params_faults), using(crate::proofs::ExternalLemmas::params_more, crate::proofs::ExternalLemmas::params_end))]
+#[tactic(auto, unfolding(crate::specs::Faults::params_faults))]
 pub fn walk_params(
     file: &WholeFile,
     place: &mut Place,
@@ -105,9 +105,19 @@ fn is_one_pointer(params: &[Param]) -> bool
 
 /// Whether a function has the form of a start routine.
 pub fn is_start_form(gives: TypeName, params: &[Param]) -> bool
-    ensures { (name : ℕ) → result ≡ scopes.is_start_form name gives params.now }
+    ensures { result ≡ has_start_form gives params.now }
 {
     value_type(gives).is_pointer() && is_one_pointer(params)
+}
+
+/// Whether a type is not the one at a place of a list.
+fn differs_at(base: TypeName, others: &[TypeName], at: usize) -> bool
+    ensures { result ≡ not (is_one_at base (slice_get others.now at)) }
+{
+    match others.get(at) {
+        None => true,
+        Some(other) => !are_one_type(base, *other),
+    }
 }
 
 /// Whether parameters have these types.
@@ -116,10 +126,7 @@ fn are_one_list(params: &[Param], others: &[TypeName]) -> bool
 {
     let mut at = 0;
     for p in params {
-        let Some(other) = others.get(at) else {
-            return false;
-        };
-        if !are_one_type(p.base, *other) {
+        if differs_at(p.base, others, at) {
             return false;
         }
         at += 1;

@@ -1,4 +1,4 @@
-use Rattle.std.proofs.Common.{◌∙◌}
+use Rattle.std.proofs.Common.{refl, ◌∙◌}
 use Rattle.lz_tree.specs.Trees.{statement}
 use Rattle.lz_types.proofs.ExternalLemmas.{Within, in_function, leavable, below_top, function_behind}
 use Rattle.lz_types.proofs.externals.walk_function.Goals as goal

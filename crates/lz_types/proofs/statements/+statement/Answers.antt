@@ -1,6 +1,7 @@
 use Rattle.std.proofs.Common.{true, map, ◌∙◌}
 use Rattle.lz_tree.specs.Trees.{statement, statements_of}
-use Rattle.lz_types.proofs.StatementLemmas.{closable, deep, in_statement, in_block, in_for_body, statement_behind, block_behind, for_behind, statements_more, statements_end}
+use Rattle.lz_scopes.proofs.PlacesLemmas.{closable, deep, in_statement, in_block, in_for, statement_behind, block_behind, for_behind}
+use Rattle.lz_types.proofs.StatementLemmas.{statements_more, statements_end}
 use Rattle.lz_tree.proofs.TreesLemmas.{is_block}
 use Rattle.lz_scopes.specs.Scopes.{after}
 use Rattle.lz_types.specs.Faults.{statement_faults}
@@ -42,24 +43,24 @@ walk_block-returns-clause-place t c =
 pub walk_statement-end-requires-clause-mark : goal.walk_statement-end-requires-clause-mark
 walk_statement-end-requires-clause-mark t c =
     closable c.args.place.now c.walk_inside-in-For.new.place _
-    (in_for_body c.args.place.now _ c.walk_statement-in-For.new.place c.walk_inside-in-For.new.place _ _
-    c.in_ok-mark.ensures.place c.in_ok-walk_statement-in-For.ensures.place c.in_ok-walk_inside-in-For.ensures.place)
-    c.in_ok-mark.ensures.mark
+    (in_for c.args.place.now _ c.walk_statement.new.place c.walk_inside-in-For.new.place (after (within true c.walk_statement.new.place) (statement c.deref-in-For-2.result.now)) _
+    c.in_ok-mark-in-For.ensures.place c.in_ok-walk_statement-in-For.ensures.place c.in_ok-walk_inside-in-For.ensures.place)
+    c.in_ok-mark-in-For.ensures.mark
 
 pub walk_statement-end-requires-clause-depth : goal.walk_statement-end-requires-clause-depth
 walk_statement-end-requires-clause-depth t c =
     deep c.args.place.now c.walk_inside-in-For.new.place
-    (in_for_body c.args.place.now _ c.walk_statement-in-For.new.place c.walk_inside-in-For.new.place _ _
-    c.in_ok-mark.ensures.place c.in_ok-walk_statement-in-For.ensures.place c.in_ok-walk_inside-in-For.ensures.place)
+    (in_for c.args.place.now _ c.walk_statement.new.place c.walk_inside-in-For.new.place (after (within true c.walk_statement.new.place) (statement c.deref-in-For-2.result.now)) _
+    c.in_ok-mark-in-For.ensures.place c.in_ok-walk_statement-in-For.ensures.place c.in_ok-walk_inside-in-For.ensures.place)
 
 pub walk_statement-returns-in_ok-walk_inside-in-For-clause-place : goal.walk_statement-returns-in_ok-walk_inside-in-For-clause-place
 unfolding after
 walk_statement-returns-in_ok-walk_inside-in-For-clause-place t c =
     rw c.in-For.is
     (c.end.ensures
-    ∙ for_behind c.args.place.now _ c.walk_statement-in-For.new.place c.walk_inside-in-For.new.place _ _ _
-    c.in_ok-mark.ensures.place (rw c.deref.ensures.value at c.in_ok-walk_statement-in-For.ensures.place)
-    (rw c.deref-2.ensures.value at c.in_ok-walk_inside-in-For.ensures.place) c.in_ok-mark.ensures.mark)
+    ∙ for_behind c.args.place.now _ c.walk_statement.new.place c.walk_inside-in-For.new.place _ (statement c.in-For.first.value) (statement c.in-For.body.value)
+    c.in_ok-mark-in-For.ensures.place (rw c.deref-in-For.ensures at c.in_ok-walk_statement-in-For.ensures.place)
+    (rw c.deref-in-For-2.ensures at c.in_ok-walk_inside-in-For.ensures.place) c.in_ok-mark-in-For.ensures.mark)
 
 pub walk_statement-returns-in_ok-walk_block-in-Block-clause-place : goal.walk_statement-returns-in_ok-walk_block-in-Block-clause-place
 unfolding after
