@@ -1,3 +1,4 @@
+mod CheckingLemmas
 mod ExternalLemmas
 mod StatementLemmas
 mod WalkLemmas
