@@ -1,3 +1,5 @@
+mod CheckingLemmas
+mod ExternalLemmas
 mod RecursionLemmas
 mod StatementLemmas
 pub mod UniqueLemmas

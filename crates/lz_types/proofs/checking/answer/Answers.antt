@@ -1,0 +1,8 @@
+use Rattle.std.proofs.Common.{sym, ◌∙◌}
+use Rattle.lz_tree.specs.Trees.{translation_unit}
+use Rattle.lz_types.proofs.CheckingLemmas.{refused}
+use Rattle.lz_types.proofs.checking.answer.Goals as goal
+
+pub returns-in-Some-clause-answer : goal.returns-in-Some-clause-answer
+returns-in-Some-clause-answer c =
+    refused (translation_unit c.args.program) c.args.found.faults.items _ _ c.requires.faults (sym (rw c.deref.ensures.value at c.first_of.ensures) ∙ c.in-Some.is) c.number_of.ensures
