@@ -1,11 +1,14 @@
 -- What a check answers, from the list of all faults, and that list from what is known of a file.
-use Rattle.std.proofs.Common.{◌≡◌, ℕ, List, [], ◌∷◌, Some, None, slice_get, refl, sym, ap, ◌∙◌, subst}
+use Rattle.std.proofs.Common.{◌≡◌, ℕ, List, [], ◌∷◌, Option, Some, None, Vec, Global, IsSome, slice_get, refl, sym, ap, ◌∙◌, subst}
 use Rattle.lz_tree.specs.Trees.{TranslationUnit}
 use Rattle.lz_tree.specs.ScopedTrees.{ScopedProgram}
 use Rattle.lz_scopes.specs.declared.fault.Fault.{Fault}
 use Rattle.lz_scopes.specs.Files.{File, Facts, file_with, bare}
 use Rattle.lz_resolve.specs.ScopedPrograms.{scoped_of}
 use Rattle.lz_calls.specs.Calls.{AreFacts}
+use Rattle.lz_calls.specs.Facts.{IsOrderOf}
+use Rattle.lz_tree.specs.Calls.{IsCallOrder}
+use Rattle.lz_types.proofs.RecursionLemmas.{recursion_free}
 use Rattle.lz_types.specs.Faults.{file_faults}
 use Rattle.lz_types.specs.Parts.{with_facts}
 use Rattle.lz_types.specs.Checking.{AreFaults, number_of}
@@ -34,3 +37,13 @@ refused unit [] one number all is numbered = absurd cc
 refused unit (x ∷ rest) one number all is numbered =
     let same : one ≡ x = cc in
     (x, rest, all, ap (λ (f : Fault). f.line) same, numbered ∙ ap (λ (f : Fault). number_of f.rule) same)
+
+-- where no rule is broken there is an order of the calls
+pub order_there : (unit : TranslationUnit) (list : List Fault) (order : Option (Vec ℕ Global)) → AreFaults unit list → slice_get list 0 ≡ None
+    → IsOrderOf (scoped_of unit).functions order → IsSome order
+order_there unit list None all none no_order = absurd (no_order (recursion_free unit (accepted unit list all none)))
+order_there unit list (Some order) all none is = refl
+
+pub order_right : (unit : TranslationUnit) (order : Option (Vec ℕ Global)) (found : Vec ℕ Global) → IsOrderOf (scoped_of unit).functions order → order ≡ Some found
+    → IsCallOrder (scoped_of unit).functions found.items
+order_right unit order found is same = subst (λ (o : Option (Vec ℕ Global)). IsOrderOf (scoped_of unit).functions o) same is

@@ -344,7 +344,8 @@ module _ (unit : TranslationUnit) (facts : Facts) where
   externals_lead p (function line hidden gives name params void_word body ∷ rest) flat clear (suc k) low =
       let inner : Place = after_body (into_body p gives name params) body in
       let q : Place = past p name inner in
-      let all = externals_lead q rest flat (back _ _ clear) k (omega arith) in
+      let all : Lead file (q.function + k) (statement_calls (body_at (scope_externals (bare unit) q rest) k)) =
+          externals_lead q rest flat (back _ _ clear) k (omega (arith, low)) in
       let next : q.function + k ≡ p.function + suc k = omega arith in
       subst (λ (n : ℕ). Lead file n (statement_calls (body_at (scope_externals (bare unit) q rest) k))) next all
 

@@ -1,6 +1,7 @@
 ghost use Rattle.std.specs.Prelude.{◌≡◌, slice_get, IfOk};
 ghost use Rattle.lz_tree.specs.Trees.{translation_unit};
 ghost use Rattle.lz_tree.specs.ScopedTrees.{scoped_program};
+ghost use Rattle.lz_tree.specs.Calls.{IsCallOrder};
 ghost use Rattle.lz_scopes.specs.Files.{bare};
 ghost use Rattle.lz_resolve.specs.ScopedPrograms.{scoped_of};
 ghost use Rattle.lz_calls.specs.Facts.{IsOrderOf, facts_of};
@@ -10,6 +11,7 @@ ghost use Rattle.lz_types.specs.Parts.{with_facts};
 use crate::externals::file_faults;
 use lz_base::Memory;
 use lz_calls::{CallFacts, facts};
+use lz_resolve::resolve;
 use lz_scopes::{Fault, Rule, TypeError, WholeFile};
 use lz_tree::{Program, Scoped};
 use std::alloc::Global;
@@ -19,7 +21,7 @@ use std::alloc::Global;
 pub struct Checked {
     program: Program,
     scoped: Scoped,
-    order: Option<Vec<u32>>,
+    order: Vec<u32>,
 }
 
 impl Checked {
@@ -37,10 +39,9 @@ impl Checked {
         &self.scoped
     }
 
-    /// The functions by their numbers, each behind those that it calls, where there is such an order. Takes no
-    /// memory.
-    pub fn order(&self) -> &Option<Vec<u32>>
-        ensures { result.now ≡ self.now.order }
+    /// All functions by their numbers, each behind those that it calls. Takes no memory.
+    pub fn order(&self) -> &[u32]
+        ensures { result.now ≡ self.now.order.items }
     {
         &self.order
     }
@@ -127,33 +128,46 @@ fn find(
     Ok(Found { faults, order })
 }
 
-/// What is found in a program.
-fn find_in(alloc: Global, program: &Program, scoped: &Scoped) -> Result<Found, Memory>
-    requires { scoped_program scoped.now ≡ scoped_of (translation_unit program.now) }
-    ensures faults { IfOk result (λ found. spec.AreFaults (translation_unit program.now) found.faults.items) }
-    ensures order { IfOk result (λ found. IsOrderOf (scoped_of (translation_unit program.now)).functions found.order) }
+/// The scoped program, and what is found in it.
+#[derive(Drop)]
+struct Looked {
+    scoped: Scoped,
+    found: Found,
+}
+
+/// Looks through a program.
+fn look(alloc: Global, program: &Program) -> Result<Looked, Memory>
+    ensures scoped { IfOk result (λ looked. scoped_program looked.scoped ≡ scoped_of (translation_unit program.now)) }
+    ensures faults { IfOk result (λ looked. spec.AreFaults (translation_unit program.now) looked.found.faults.items) }
+    ensures order { IfOk result (λ looked. IsOrderOf (scoped_of (translation_unit program.now)).functions looked.found.order) }
 {
     let mut file = WholeFile::new(alloc, program)?;
-    find(alloc, &mut file, program, scoped)
+    let scoped = resolve(alloc, &file, program)?;
+    let found = find(alloc, &mut file, program, &scoped)?;
+    Ok(Looked { scoped, found })
 }
 
 /// What a check answers on a program in which this was found, with its scoped one.
-#[tactic(auto, using(crate::proofs::CheckingLemmas::accepted))]
+#[tactic(auto, using(crate::proofs::CheckingLemmas::accepted, crate::proofs::CheckingLemmas::order_right))]
 fn answer(program: Program, scoped: Scoped, found: Found) -> Result<Checked, TypeError>
     requires scoped { scoped_program scoped ≡ scoped_of (translation_unit program) }
     requires faults { spec.AreFaults (translation_unit program) found.faults.items }
     requires order { IsOrderOf (scoped_of (translation_unit program)).functions found.order }
     ensures answer { spec.Answers (λ c. scoped_program c.scoped) (translation_unit program) result }
     ensures program { IfOk result (λ c. c.program ≡ program) }
-    ensures order { IfOk result (λ c. IsOrderOf (scoped_of (translation_unit program)).functions c.order) }
+    ensures order { IfOk result (λ c. IsCallOrder (scoped_of (translation_unit program)).functions c.order.items) }
 {
     let Found { faults, order } = found;
     match first_of(&faults) {
-        None => Ok(Checked {
-            program,
-            scoped,
-            order,
-        }),
+        None => {
+            // no rule is broken, so no function can reach itself
+            let order = order.unwrap();
+            Ok(Checked {
+                program,
+                scoped,
+                order,
+            })
+        }
         Some(fault) => Err(TypeError::Rule {
             line: fault.line,
             number: number_of(fault.rule),
@@ -161,15 +175,14 @@ fn answer(program: Program, scoped: Scoped, found: Found) -> Result<Checked, Typ
     }
 }
 
-/// Checks a program against the rules, with its scoped one. The answer is the checked program, or the first rule in
-/// the order of the text that it breaks, with its line; or want of memory. The work is the size of the tree times its
-/// height, and the square of the number of functions and their calls.
-pub fn check_scoped(alloc: Global, program: Program, scoped: Scoped) -> Result<Checked, TypeError>
-    requires { scoped_program scoped ≡ scoped_of (translation_unit program) }
+/// Checks a program against the rules (C99 6.2 to 6.9). The answer is the program with its scoped one and an order of
+/// its calls, or the first rule in the order of the text that it breaks, with its line; or want of memory. The work is
+/// the size of the tree times its height, and the square of the number of functions and their calls.
+pub fn check(alloc: Global, program: Program) -> Result<Checked, TypeError>
     ensures answer { spec.Answers (λ c. scoped_program c.scoped) (translation_unit program) result }
     ensures program { IfOk result (λ c. c.program ≡ program) }
-    ensures order { IfOk result (λ c. IsOrderOf (scoped_of (translation_unit program)).functions c.order) }
+    ensures order { IfOk result (λ c. IsCallOrder (scoped_of (translation_unit program)).functions c.order.items) }
 {
-    let found = find_in(alloc, &program, &scoped)?;
+    let Looked { scoped, found } = look(alloc, &program)?;
     answer(program, scoped, found)
 }
