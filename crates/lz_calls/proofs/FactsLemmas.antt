@@ -11,11 +11,11 @@ use Rattle.lz_tree.specs.ScopedTrees.{ScopedDefinition, scoped_definition}
 use Rattle.lz_tree.specs.Calls.{statement_calls, body_at, StandsBefore, IsCallOrder}
 use Rattle.lz_scopes.specs.Files.{Facts, or_false, row_has}
 use Rattle.lz_calls.specs.Calls.{graph_of, row, Calls, Reaches, IsStart, height_of, body_height_limit, counted_height, AreHeights, AreFacts}
-use Rattle.lz_calls.specs.Heights.{capped, counts_at, body_height, height_at_rank}
+use Rattle.lz_calls.specs.Heights.{capped, counts_at, body_height, height_through, greatest, height_at_rank}
 use Rattle.lz_calls.specs.Ranks.{IsRanking, AreReturning, IsRankOrder, IsFalling}
 use Rattle.lz_calls.specs.Reaching.{Among, IsReachedFrom, Marked, IsReach}
 use Rattle.lz_calls.specs.Facts.{AreStarts, IsRecursionFree, IsOrderOf}
-use Rattle.lz_calls.proofs.ReachingLemmas.{no_truth, calls_within}
+use Rattle.lz_calls.proofs.ReachingLemmas.{no_truth, calls_within, among_contains}
 use Rattle.lz_calls.proofs.RanksLemmas.{same_rank, default}
 use Rattle.lz_calls.proofs.HeightsLemmas.{sees_all, statement_agrees, calls_of_body, height_fixed, lower}
 
@@ -61,6 +61,23 @@ has_by_rank graph ranks count rows r f g low c =
     ap (λ o. row_has o g) (r.each f low)
     ∙ any-filter_same (λ m. m == g) (λ m. slice_index ranks m == own) (slice_index ranks g == own) (λ k e. ap (λ n. slice_index ranks n == own) (eqb-true k g e)) calls
     ∙ and_true (slice_index ranks g == own) (list_any (λ m. m == g) calls) found
+
+-- two tests that agree at each item of a list keep the same items
+pub filters_agree : (p q : ℕ → Bool) (xs : List ℕ) → ((g : ℕ) → Among xs g → p g ≡ q g) → filter p xs ≡ filter q xs
+filters_agree p q [] agree = refl
+filters_agree p q (x ∷ xs) agree =
+    rw (agree x (inl refl))
+    (elim (cases_Bool (q x)) [
+      | inl yes_it_does ↦ rw yes_it_does (ap (λ rest. x ∷ rest) (filters_agree p q xs (λ g a. agree g (inr a))))
+      | inr no_it_does_not ↦ rw no_it_does_not (filters_agree p q xs (λ g a. agree g (inr a)))
+    ])
+
+-- a row has those of the calls alone that it has
+rows_hold : (graph : List (List ℕ)) (ranks : List ℕ) (count : ℕ) (rows : List (List ℕ)) → AreReturning graph ranks count rows → (f : ℕ) → f < count → slice_get rows f ≡ Some (filter (λ g. row_has (slice_get rows f) g) (row (slice_get graph f)))
+rows_hold graph ranks count rows r f low =
+    r.each f low
+    ∙ ap Some (filters_agree (λ g. slice_index ranks g == slice_index ranks f) (λ g. row_has (slice_get rows f) g) (row (slice_get graph f)) (λ g a.
+    sym (has_by_rank graph ranks count rows r f g low (among_contains (row (slice_get graph f)) g a))))
 
 returning_holds : (graph : List (List ℕ)) (ranks : List ℕ) (rows : List (List ℕ)) → IsRanking graph ranks → AreReturning graph ranks (length graph) rows → (f g : ℕ) → Calls graph f g → IsTrue (row_has (slice_get rows f) g) ↔ Reaches graph g f
 returning_holds graph ranks rows r are f g c =
@@ -168,14 +185,19 @@ facts_made functions ranks heights starts rows marks high r are starting reach l
     let rows_are : AreReturning (graph_of functions) ranks (length (graph_of functions)) rows = subst (λ (n : ℕ). AreReturning (graph_of functions) ranks n rows) same are in
     record {
       returning = λ f g c. returning_holds (graph_of functions) ranks rows r rows_are f g c;
+      rows = λ f low. rows_hold (graph_of functions) ranks (length functions) rows are f low;
       reached = λ f low. reached_holds functions starts marks starting reach f low;
       heights = height_at_rank functions ranks;
       measured = measured_holds functions ranks rows r rows_are;
+      missing = λ f none. ap (body_height ranks (height_through functions ranks (greatest ranks)) f) none;
       high = λ f low.
           ap (λ hs. or_false (slice_get hs f)) is
           ∙ high_read heights body_height_limit f (omega (arith, low, long))
           ∙ ap (nat_lt body_height_limit) (known f low)
           ∙ above_limit body_height_limit (height_at_rank functions ranks f) (omega arith);
+      all_rows = are.long;
+      all_reached = reach.long ∙ sym same;
+      all_high = ap length is ∙ length-map heights (λ h. nat_lt body_height_limit h) ∙ long;
     }
 
 -- ---- orders

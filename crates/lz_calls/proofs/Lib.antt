@@ -4,3 +4,4 @@ pub mod RanksLemmas
 pub mod TopsLemmas
 pub mod HeightsLemmas
 pub mod FactsLemmas
+pub mod UniqueLemmas

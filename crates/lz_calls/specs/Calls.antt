@@ -1,7 +1,7 @@
 -- Trusted: which functions a program calls, what can be reached through calls, how high bodies are together with those
 -- that they call, and so which rules a program breaks (C99 6.5.2.2).
 use Rattle.std.specs.Prelude.{◌≡◌, ℕ, zero, suc, ◌+◌, ◌<◌, ◌==◌, max, nat_lt, Bool, true, false, not, IsTrue, ◌↔◌, ◌&&◌, ◌||◌, List, [], ◌∷◌, ◌++◌, map, length, Option, Some, None, if◌then◌else◌, slice_get, Result, Ok, Err}
-use Rattle.std.specs.List.{Contains}
+use Rattle.std.specs.List.{Contains, filter}
 use Rattle.lz_tree.specs.declared.scoped.Object.{Object}
 use Rattle.lz_tree.specs.declared.scoped.Object.TheVariants.{Local, Cell, Mutex, Cond, Handle, Routine, Known}
 use Rattle.lz_tree.specs.Calls.{statement_calls}
@@ -131,11 +131,15 @@ AreHeights functions returning heights =
 
 -- ---- facts and faults
 
--- The facts are those of the functions, and of each function by its number.
+-- The facts are those of the functions, and of each function by its number. There are no others of the same functions.
 pub record AreFacts (functions : List ScopedDefinition) (facts : Facts) : Type 0 where
   -- a function that another calls comes back to it
   pub returning : (f g : ℕ) → Calls (graph_of functions) f g
       → IsTrue (row_has (slice_get facts.returning f) g) ↔ Reaches (graph_of functions) g f
+  -- a row has no other members, and has them in the order of the calls
+  pub rows : (f : ℕ) → f < length functions
+      → slice_get facts.returning f
+      ≡ Some (filter (λ g. row_has (slice_get facts.returning f) g) (row (slice_get (graph_of functions) f)))
   -- a start routine can reach it, or it is one
   pub reached : (f : ℕ) → f < length functions
       → IsTrue (or_false (slice_get facts.reached f)) ↔ ((s : ℕ) × IsStart functions s × Reaches (graph_of functions) s f)
@@ -143,3 +147,9 @@ pub record AreFacts (functions : List ScopedDefinition) (facts : Facts) : Type 0
   pub heights : ℕ → ℕ
   pub measured : AreHeights functions facts.returning heights
   pub high : (f : ℕ) → f < length functions → or_false (slice_get facts.high f) ≡ nat_lt body_height_limit (heights f)
+  -- a call of a number that no function has counts nothing
+  pub missing : (f : ℕ) → slice_get functions f ≡ None → heights f ≡ 0
+  -- nothing is said of a number that no function has
+  pub all_rows : length facts.returning ≡ length functions
+  pub all_reached : length facts.reached ≡ length functions
+  pub all_high : length facts.high ≡ length functions

@@ -4,8 +4,10 @@
 
 mod finding;
 mod heights;
+mod laws;
 mod listing;
 mod ranks;
 mod reaching;
 
 pub use finding::{BODY_HEIGHT_LIMIT, CallFacts, facts};
+pub use laws::facts_are_determined;
