@@ -1,6 +1,6 @@
 -- Rows of parameters and of external declarations, walked from left to right; and a function leaves the place around
 -- it as it was, but for its name.
-use Rattle.std.proofs.Common.{◌≡◌, ℕ, zero, suc, ◌+◌, ◌-◌, ◌<◌, ◌≤◌, Bool, true, false, not, ◌&&◌, ◌||◌, List, [], ◌∷◌, ◌++◌, length, map, drop, take, get_or, slice_get, Option, Some, None, is_none, refl, sym, ap, ◌∙◌, arith, append_assoc, append-nil, drop_of_length-le}
+use Rattle.std.proofs.Common.{◌≡◌, ℕ, zero, suc, ◌+◌, ◌-◌, ◌<◌, ◌≤◌, Bool, true, false, not, ◌&&◌, List, [], ◌∷◌, ◌++◌, length, map, drop, take, get_or, slice_get, Option, Some, None, refl, sym, ap, ◌∙◌, arith, append_assoc, append-nil, drop_of_length-le}
 use Rattle.std.proofs.lemmas.List.{length-append, get_or_default}
 use Rattle.lz_tree.specs.declared.expression.TypeName.{TypeName}
 use Rattle.lz_tree.specs.declared.program.External.{External}
@@ -10,14 +10,13 @@ use Rattle.lz_scopes.specs.declared.entering.Outer.{Outer}
 use Rattle.lz_scopes.specs.declared.fault.Fault.{Fault}
 use Rattle.lz_scopes.specs.declared.names.Entry.{Entry}
 use Rattle.lz_scopes.specs.declared.place.Place.{Place}
-use Rattle.lz_scopes.specs.declared.signature.Signature.{Signature}
 use Rattle.lz_scopes.specs.Files.{File}
-use Rattle.lz_scopes.specs.ValueTypes.{value_type, are_one_type, are_one_list}
+use Rattle.lz_scopes.specs.ValueTypes.{value_type, are_one_list}
 use Rattle.lz_scopes.specs.Scopes.{bases, with_function, into, into_body, with_param, with_params, object_from, after_body, after_external, past}
 use Rattle.lz_scopes.specs.Views.{outer_of, left_function, left_prototype}
 use Rattle.lz_scopes.proofs.ArgumentsLemmas.{drop_item}
-use Rattle.lz_types.specs.Faults.{at, param_rules, params_faults, external_faults, externals_faults, is_other}
-use Rattle.lz_types.specs.Parts.{params_differ, is_one_at}
+use Rattle.lz_types.specs.Faults.{at, param_rules, params_faults, external_faults, externals_faults}
+use Rattle.lz_types.specs.Parts.{is_one_at}
 use Rattle.lz_scopes.proofs.PlacesLemmas.{Kept, kept, kept_all}
 
 -- ---- parameters
@@ -86,23 +85,6 @@ pub ones_not : (ps : List Param) (others : List TypeName) (i : ℕ) (d : Param) 
     → not (is_one_at (get_or ps i d).base (slice_get others i)) ≡ true → ones_at ps others i ≡ false
 ones_not ps others i d below differs =
     ones_step ps others i d below ∙ after_false (is_one_at (get_or ps i d).base (slice_get others i)) (ones_at ps others (i + 1)) differs
-
-none_left : (others : List TypeName) (i : ℕ) → are_one_list [] (drop i others) ≡ is_none (slice_get others i)
-none_left [] zero = refl
-none_left [] (suc i) = refl
-none_left (other ∷ rest) zero = refl
-none_left (other ∷ rest) (suc i) = none_left rest i
-
-pub ones_end : (ps : List Param) (others : List TypeName) (i : ℕ) → length ps ≤ i → ones_at ps others i ≡ is_none (slice_get others i)
-ones_end ps others i over = rw (drop_of_length-le ps over) (none_left others i)
-
--- a prototype differs from a definition by its result or its parameters
-pub other_by_parts : (gives : TypeName) (params : List TypeName) (void_word : Bool) (f : Signature)
-    → (not (are_one_type gives f.gives) || params_differ params void_word f.params) ≡ is_other gives params void_word (Some f)
-other_by_parts gives [] true f = refl
-other_by_parts gives [] false f = refl
-other_by_parts gives (p ∷ rest) true f = refl
-other_by_parts gives (p ∷ rest) false f = refl
 
 -- ---- functions
 

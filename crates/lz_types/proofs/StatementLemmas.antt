@@ -1,17 +1,14 @@
 -- Rows of declarators and of statements, walked from left to right.
-use Rattle.std.proofs.Common.{◌≡◌, ℕ, zero, suc, ◌+◌, ◌-◌, ◌<◌, ◌≤◌, Bool, true, false, List, [], ◌∷◌, ◌++◌, length, map, drop, take, get_or, Option, Some, None, refl, sym, ap, ◌∙◌, arith, append_assoc, append-nil, drop_of_length-le}
-use Rattle.std.proofs.lemmas.List.{length-append}
+use Rattle.std.proofs.Common.{◌≡◌, ℕ, ◌+◌, ◌<◌, ◌≤◌, List, [], ◌∷◌, ◌++◌, length, map, drop, get_or, refl, sym, ap, ◌∙◌, append_assoc, append-nil, drop_of_length-le}
 use Rattle.lz_tree.specs.declared.expression.TypeName.{TypeName}
 use Rattle.lz_tree.specs.declared.statement.Stmt.{Stmt}
 use Rattle.lz_tree.specs.declared.statement.Declarator.{Declarator}
-use Rattle.lz_tree.specs.Trees.{InitDeclarator, Statement, empty, eval, block, declare, when, while, do_while, for, break, continue, return, label, Branch, absent, branch, Statements, nil, cons, init_declarator, statement, statements_of}
+use Rattle.lz_tree.specs.Trees.{InitDeclarator, Statements, nil, cons, init_declarator, statement, statements_of}
 use Rattle.lz_scopes.specs.declared.fault.Fault.{Fault}
-use Rattle.lz_scopes.specs.declared.names.Entry.{Entry}
 use Rattle.lz_scopes.specs.declared.place.Place.{Place}
 use Rattle.lz_scopes.specs.Files.{File}
-use Rattle.lz_scopes.specs.Scopes.{inside, inside_loop, behind, after, after_branch, after_all, with_declarator, with_declarators}
+use Rattle.lz_scopes.specs.Scopes.{after, after_all, with_declarator, with_declarators}
 use Rattle.lz_types.specs.Faults.{whole_declarator_faults, declarators_faults, statement_faults, statements_faults}
-use Rattle.lz_scopes.specs.Views.{ended, within}
 use Rattle.lz_scopes.proofs.ArgumentsLemmas.{drop_item}
 
 -- ---- declarators in a row

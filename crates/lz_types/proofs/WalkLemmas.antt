@@ -1,5 +1,5 @@
 -- Rules at a line, one after the other, and the faults of arguments from a place on.
-use Rattle.std.proofs.Common.{◌≡◌, ℕ, ◌+◌, ◌<◌, ◌≤◌, List, [], ◌∷◌, ◌++◌, length, map, drop, get_or, Option, refl, sym, ap, ◌∙◌, append_assoc, append-nil}
+use Rattle.std.proofs.Common.{◌≡◌, ℕ, ◌+◌, ◌<◌, ◌≤◌, List, [], ◌∷◌, ◌++◌, length, drop, get_or, Option, refl, sym, ap, ◌∙◌, append_assoc, append-nil}
 use Rattle.lz_tree.specs.declared.expression.Expr.{Expr}
 use Rattle.lz_tree.specs.declared.scoped.Object.{Object}
 use Rattle.lz_tree.specs.Trees.{Expression, Expressions, call, expression}
@@ -8,7 +8,7 @@ use Rattle.lz_scopes.specs.declared.fault.Rule.{Rule}
 use Rattle.lz_scopes.specs.declared.place.Place.{Place}
 use Rattle.lz_scopes.specs.declared.value_types.Want.{Want}
 use Rattle.lz_scopes.specs.Files.{File}
-use Rattle.lz_scopes.specs.ExpressionTypes.{first_want, rest_of, callee, wants_of, further_want}
+use Rattle.lz_scopes.specs.ExpressionTypes.{first_want, callee, wants_of, further_want}
 use Rattle.lz_types.specs.Faults.{at, node, faults, all_faults}
 use Rattle.lz_scopes.proofs.ArgumentsLemmas.{rest_drop, left_at, next, none_left}
 

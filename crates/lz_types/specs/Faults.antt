@@ -1,12 +1,11 @@
 -- Trusted: the list of all rules that a program breaks, in the order of the text: at each node its own ones by number,
 -- and then those of its parts from left to right. It is read with what is known of the whole file.
-use Rattle.std.specs.Prelude.{◌≡◌, ℕ, zero, suc, ◌+◌, ◌==◌, nat_lt, Bool, true, false, not, ◌&&◌, ◌||◌, List, [], ◌∷◌, ◌++◌, map, length, Option, Some, None, is_some, is_none, if◌then◌else◌, slice_get}
+use Rattle.std.specs.Prelude.{ℕ, nat_lt, Bool, true, false, not, ◌&&◌, ◌||◌, List, [], ◌∷◌, ◌++◌, map, length, Option, Some, None, is_some, if◌then◌else◌, slice_get}
 use Rattle.lz_tree.specs.declared.expression.TypeName.{TypeName}
 use Rattle.lz_tree.specs.declared.expression.TypeName.TheVariants as types
 use Rattle.lz_tree.specs.declared.program.Param.{Param}
-use Rattle.lz_tree.specs.Trees.{Expression, constant, null, text, object, address, paren, unary, cast, binary, choose, assign, step, call, Index, whole, element, Expressions, none, and, Initializer, nothing, single, listed, mutex, cond, InitDeclarator, Declaration, Statement, empty, eval, block, declare, when, while, do_while, for, break, continue, return, label, Branch, absent, branch, Statements, nil, cons, ExternalDeclaration, objects, prototype, function, TranslationUnit}
+use Rattle.lz_tree.specs.Trees.{Expression, constant, null, text, object, address, paren, unary, cast, binary, choose, assign, step, call, Index, whole, element, Expressions, none, and, Initializer, nothing, single, listed, mutex, cond, InitDeclarator, Declaration, Statement, empty, eval, block, declare, when, while, do_while, for, break, continue, return, label, Branch, absent, branch, Statements, nil, cons, ExternalDeclaration, objects, prototype, function}
 use Rattle.lz_scopes.specs.declared.value_types.ValueType.{ValueType}
-use Rattle.lz_scopes.specs.declared.value_types.ValueType.TheVariants as sorts
 use Rattle.lz_scopes.specs.declared.value_types.Want.{Want}
 use Rattle.lz_scopes.specs.declared.value_types.Want.TheVariants as wants
 use Rattle.lz_scopes.specs.declared.fault.Fault.{Fault}
@@ -14,13 +13,12 @@ use Rattle.lz_scopes.specs.declared.fault.Rule.{Rule}
 use Rattle.lz_scopes.specs.declared.fault.Rule.TheVariants.{DeclaredTwice, KnownNameTaken, TypeMisfit, BadLength, NotConstant, BadInitializer, OutsideLoop, BadReturn, NoMain, ThreadInThread, PointerOutsideStart, LocalMutex, ManyElements, RefusedType, OtherPrototype, TooHigh}
 use Rattle.lz_scopes.specs.ValueTypes.{is_refused, value_type, are_one_type, are_one_list, is_pointer, is_nothing, is_thread, is_mutex, is_cond, is_lock, is_no_operand, want_of}
 use Rattle.lz_scopes.specs.ValueTypes as values
-use Rattle.lz_scopes.specs.Constants.{elements, is_bad_length, is_constant_initializer, constant_value, length_in}
+use Rattle.lz_scopes.specs.Constants.{is_bad_length, is_constant_initializer, constant_value, length_in}
 use Rattle.lz_scopes.specs.KnownNames.{is_taken}
 use Rattle.lz_scopes.specs.declared.place.Place.{Place}
-use Rattle.lz_scopes.specs.Names.{nearest}
 use Rattle.lz_scopes.specs.declared.signature.Signature.{Signature}
-use Rattle.lz_scopes.specs.Scopes.{bases, is_start, is_start_at, is_start_form, named, is_outside, around, has_object, has_function, with_declarator, with_declarators, with_declaration, with_param, with_params, inside, inside_loop, behind, after, after_branch, after_all, opening, into_body, into, with_function, after_external}
-use Rattle.lz_scopes.specs.Files.{File, function_named, known_at, is_main, is_high, main_from}
+use Rattle.lz_scopes.specs.Scopes.{bases, is_start_form, named, is_outside, around, has_object, has_function, with_declarator, with_param, inside, inside_loop, behind, after, opening, into_body, into, with_function, after_external}
+use Rattle.lz_scopes.specs.Files.{File, function_named, known_at, is_high, main_from}
 use Rattle.lz_scopes.specs.ExpressionTypes.{has_index, misuse, callee, wants_of, further_want, first_want, rest_of, count, is_function_name, is_start_place, is_in_thread, type_at, type_of, choice_want, own}
 
 -- the rules that are broken at a line
