@@ -8,8 +8,11 @@ ghost use Rattle.lz_cli.specs.Limits.{defaults};
 ghost use Rattle.lz_cli.specs.Ending.{Call, call_of, IsVerdict, IsLawful};
 ghost use Rattle.lz_tree.specs.Tokens.{HasTokens};
 ghost use Rattle.lz_tree.specs.Trees.{translation_unit};
+ghost use Rattle.lz_tree.specs.ScopedTrees.{scoped_program};
+ghost use Rattle.lz_tree.specs.Calls.{IsCallOrder};
 ghost use Rattle.lz_tree.specs.FirstFormScopes.{program, IsWellFormed};
 ghost use Rattle.lz_cli.specs.Source.{HasTree, IsFirstForm};
+ghost use Rattle.lz_resolve.specs.ScopedPrograms.{scoped_of};
 ghost use Rattle.lz_cli.specs.Admission.{IsAccepted, IsAdmitted};
 ghost use Rattle.lz_cli.specs.Command.{output_of, IsDeliveredOrCutOff, Answers};
 
@@ -28,9 +31,9 @@ use lz_outside::{Failed, Folder, ReadError, Sink, read_all, write_all};
 use lz_parse::{ParseError, parse};
 use lz_scopes::TypeError;
 use lz_slots::{cost, slots};
-use lz_tree::first_form::Scoped;
-use lz_tree::{Program, Tokens};
-use lz_types::{Checked, check};
+use lz_tree::first_form::Scoped as FirstForm;
+use lz_tree::{Program, Scoped, Tokens};
+use lz_types::check;
 use std::alloc::Global;
 
 /// How a call ended: the status that the program ends with, and what shows that the verdict is right.
@@ -173,33 +176,38 @@ fn judge_program(alloc: Global, program: Program) -> Result<Ending, Memory>
     ensures printable { IfOk result IsPrintable }
 {
     match check(alloc, program) {
-        Ok(checked) => judge_checked(alloc, &checked),
+        Ok(checked) => judge_checked(
+            alloc,
+            checked.program(),
+            checked.scoped(),
+            checked.order(),
+        ),
         Err(TypeError::Rule { line, number }) => Ok(Ending::Faulty { line, rule: number }),
         Err(TypeError::Memory) => Err(Memory),
     }
 }
 
-/// The verdict on a program that breaks no rule.
-fn judge_checked(alloc: Global, checked: &Checked) -> Result<Ending, Memory>
-    requires { IsChecked checked.now }
-    ensures verdict { IfOk result (λ ending. (bytes : List ℕ) → IsAccepted bytes (translation_unit checked.now.program) → IsVerdict defaults bytes ending) }
+/// The verdict on a program that breaks no rule, with its scoped one and an order of its calls.
+fn judge_checked(
+    alloc: Global,
+    program: &Program,
+    scoped: &Scoped,
+    order: &[u32],
+) -> Result<Ending, Memory>
+    requires scoped { scoped_program scoped.now ≡ scoped_of (translation_unit program.now) }
+    requires order { IsCallOrder (scoped_program scoped.now).functions order.now }
+    ensures verdict { IfOk result (λ ending. (bytes : List ℕ) → IsAccepted bytes (translation_unit program.now) → IsVerdict defaults bytes ending) }
     ensures printable { IfOk result IsPrintable }
 {
-    let slots = slots(alloc, checked.scoped(), checked.order(), DEFAULT_UNWIND)?;
+    let slots = slots(alloc, scoped, order, DEFAULT_UNWIND)?;
     if slots > SLOT_LIMIT {
         return Ok(Ending::ManySlots { slots });
     }
-    let cost = cost(
-        alloc,
-        checked.scoped(),
-        checked.order(),
-        DEFAULT_UNWIND,
-        DEFAULT_ROUNDS,
-    )?;
+    let cost = cost(alloc, scoped, order, DEFAULT_UNWIND, DEFAULT_ROUNDS)?;
     if cost > COST_LIMIT {
         return Ok(Ending::HighCost { cost });
     }
-    judge_admitted(alloc, checked.program())
+    judge_admitted(alloc, program)
 }
 
 /// The verdict on a program within the limits.
@@ -214,7 +222,7 @@ fn judge_admitted(alloc: Global, program: &Program) -> Result<Ending, Memory>
 }
 
 /// The verdict on a program of the first form.
-fn judge_form(alloc: Global, scoped: &Scoped) -> Result<Ending, Memory>
+fn judge_form(alloc: Global, scoped: &FirstForm) -> Result<Ending, Memory>
     requires { IsWellFormed (program scoped.now) }
     ensures verdict { IfOk result (λ ending. (bytes : List ℕ) → IsAdmitted defaults bytes → IsFirstForm bytes (program scoped.now) → IsVerdict defaults bytes ending) }
     ensures printable { IfOk result IsPrintable }
