@@ -1,5 +1,5 @@
 -- What a check answers, from the list of all faults, and that list from what is known of a file.
-use Rattle.std.proofs.Common.{◌≡◌, ℕ, List, [], ◌∷◌, Option, Some, None, Vec, Global, IsSome, slice_get, refl, ap, ◌∙◌, subst}
+use Rattle.std.proofs.Common.{◌≡◌, ℕ, List, [], ◌∷◌, Option, Some, None, Vec, Global, IsSome, slice_get, refl, sym, ap, ◌∙◌, subst}
 use Rattle.lz_tree.specs.Trees.{TranslationUnit}
 use Rattle.lz_tree.specs.ScopedTrees.{ScopedProgram}
 use Rattle.lz_scopes.specs.declared.fault.Fault.{Fault}
@@ -44,6 +44,8 @@ pub order_there : (unit : TranslationUnit) (list : List Fault) (order : Option (
 order_there unit list None all none no_order = absurd (no_order (recursion_free unit (accepted unit list all none)))
 order_there unit list (Some order) all none is = refl
 
-pub order_right : (unit : TranslationUnit) (order : Option (Vec ℕ Global)) (found : Vec ℕ Global) → IsOrderOf (scoped_of unit).functions order → order ≡ Some found
-    → IsCallOrder (scoped_of unit).functions found.items
-order_right unit order found is same = subst (λ (o : Option (Vec ℕ Global)). IsOrderOf (scoped_of unit).functions o) same is
+pub order_right : (unit : TranslationUnit) (p : ScopedProgram) (order : Option (Vec ℕ Global)) (found : Vec ℕ Global) → p ≡ scoped_of unit
+    → IsOrderOf (scoped_of unit).functions order → order ≡ Some found → IsCallOrder p.functions found.items
+order_right unit p order found whole is same =
+    subst (λ (q : ScopedProgram). IsCallOrder q.functions found.items) (sym whole)
+    (subst (λ (o : Option (Vec ℕ Global)). IsOrderOf (scoped_of unit).functions o) same is)

@@ -155,7 +155,7 @@ fn answer(program: Program, scoped: Scoped, found: Found) -> Result<Checked, Typ
     requires order { IsOrderOf (scoped_of (translation_unit program)).functions found.order }
     ensures answer { spec.Answers (λ c. scoped_program c.scoped) (translation_unit program) result }
     ensures program { IfOk result (λ c. c.program ≡ program) }
-    ensures order { IfOk result (λ c. IsCallOrder (scoped_of (translation_unit program)).functions c.order.items) }
+    ensures order { IfOk result (λ c. IsCallOrder (scoped_program c.scoped).functions c.order.items) }
 {
     let Found { faults, order } = found;
     match first_of(&faults) {
@@ -181,7 +181,7 @@ fn answer(program: Program, scoped: Scoped, found: Found) -> Result<Checked, Typ
 pub fn check(alloc: Global, program: Program) -> Result<Checked, TypeError>
     ensures answer { spec.Answers (λ c. scoped_program c.scoped) (translation_unit program) result }
     ensures program { IfOk result (λ c. c.program ≡ program) }
-    ensures order { IfOk result (λ c. IsCallOrder (scoped_of (translation_unit program)).functions c.order.items) }
+    ensures order { IfOk result (λ c. IsCallOrder (scoped_program c.scoped).functions c.order.items) }
 {
     let Looked { scoped, found } = look(alloc, &program)?;
     answer(program, scoped, found)
