@@ -9,24 +9,24 @@ use std::process::Abort;
 use std::test::Fail;
 
 /// A sink of more room than any report of these tests takes.
-const AMPLE: u64 = 1_000;
+pub const AMPLE: u64 = 1_000;
 
 /// What a call printed, and how it ended.
 #[derive(Drop)]
-struct Told {
-    text: Bytes,
-    ended: Ended,
+pub struct Told {
+    pub text: Bytes,
+    pub ended: Ended,
 }
 
 /// Calls the command with these words, over a folder with the file `a.c` of this text.
-fn call(alloc: Global, words: &[&str], text: &[u8], room: u64) -> Result<Told, Memory> {
+pub fn call(alloc: Global, words: &[&str], text: &[u8], room: u64) -> Result<Told, Memory> {
     let mut source = Bytes::new(alloc);
     source.append(text)?;
     call_with(alloc, words, source, room, Calls::new(alloc))
 }
 
 /// The same with a text that is made already, over a folder whose listed calls fail.
-fn call_with(
+pub fn call_with(
     alloc: Global,
     words: &[&str],
     bytes: Bytes,
@@ -57,10 +57,10 @@ fn has_proof(ended: &Ended) -> bool {
 /// The report of a success, and that of a form that is not built.
 const SUCCESS: &str = "SUCCESSFUL unwind 2 rounds 2\n";
 
-const NOT_BUILT: &str = "NOTBUILT line 0\n";
+pub const NOT_BUILT: &str = "NOTBUILT line 0\n";
 
 /// A text, the report and the status of its file, and the reason of the row.
-type Row = (&'static str, &'static str, u8, &'static str);
+pub type Row = (&'static str, &'static str, u8, &'static str);
 
 /// Files of the first form.
 const VERDICTS: [Row; 12] = [
@@ -341,13 +341,13 @@ const REFUSED: [Row; 10] = [
 ];
 
 /// Compares what was told; a success has a proof, and nothing else has one.
-fn compare(rt: &impl Abort, told: &Told, report: &str, status: u8, reason: &str) {
+pub fn compare(rt: &impl Abort, told: &Told, report: &str, status: u8, reason: &str) {
     assert_eq!(rt; told.text.items(), report.as_bytes(), "{reason}");
     assert_eq!(rt; told.ended.status, status, "{reason}");
     assert_eq!(rt; has_proof(&told.ended), status == 0, "{reason}");
 }
 
-fn compare_rows(rt: &impl Abort, alloc: Global, rows: &[Row]) -> Result<(), Fail> {
+pub fn compare_rows(rt: &impl Abort, alloc: Global, rows: &[Row]) -> Result<(), Fail> {
     for (text, report, status, reason) in rows {
         let told = call(alloc, &["a.c"], text.as_bytes(), AMPLE)
             .ok()

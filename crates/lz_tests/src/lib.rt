@@ -14,3 +14,5 @@ mod lazy;
 mod letters;
 #[cfg(test)]
 mod outside;
+#[cfg(test)]
+mod rules;
