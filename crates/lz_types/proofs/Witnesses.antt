@@ -1,13 +1,12 @@
 -- Small programs, each with the list of all rules that it breaks: lines and numbers in order.
-use Rattle.std.proofs.Common.{◌≡◌, ℕ, List, [], ◌∷◌, map, codes, Bool, true, false, ◌==◌, ◌||◌, ◌&&◌, Option, Some, None, refl}
-use Rattle.lz_base.specs.declared.operator.Unary.TheVariants as uops
+use Rattle.std.proofs.Common.{◌≡◌, ℕ, List, [], ◌∷◌, map, codes, Bool, true, false, Option, Some, None, refl}
 use Rattle.lz_base.specs.declared.operator.Binary.TheVariants as ops
 use Rattle.lz_tree.specs.declared.token.Form.{Form}
 use Rattle.lz_tree.specs.declared.expression.TypeName.{TypeName}
 use Rattle.lz_tree.specs.declared.expression.TypeName.TheVariants as types
 use Rattle.lz_tree.specs.declared.program.Param.{Param}
 use Rattle.lz_tree.specs.declared.program.Lead.TheVariants as leads
-use Rattle.lz_tree.specs.Trees.{Expression, constant, null, text, object, address, paren, unary, cast, binary, choose, assign, step, call, Index, whole, element, Expressions, none, and, Initializer, nothing, single, listed, mutex, cond, InitDeclarator, Declaration, Statement, empty, eval, block, declare, when, while, do_while, for, break, continue, return, label, Branch, absent, branch, Statements, nil, cons, ExternalDeclaration, objects, prototype, function, TranslationUnit}
+use Rattle.lz_tree.specs.Trees.{Expression, constant, null, text, object, address, paren, cast, binary, choose, assign, step, call, whole, element, none, and, Initializer, nothing, single, listed, mutex, cond, InitDeclarator, Declaration, empty, eval, block, declare, when, while, do_while, for, break, continue, return, label, absent, branch, nil, cons, ExternalDeclaration, objects, prototype, function, TranslationUnit}
 use Rattle.lz_scopes.specs.ValueTypes.{are_one_type}
 use Rattle.lz_scopes.specs.Constants.{constant_value}
 use Rattle.lz_scopes.specs.KnownNames.{known, known_names}

@@ -1,5 +1,5 @@
 use Rattle.std.proofs.Common.{sym, ◌∙◌}
-use Rattle.lz_scopes.proofs.ArgumentsLemmas.{constant_more, constant_not}
+use Rattle.lz_scopes.proofs.ArgumentsLemmas.{constant_more}
 use Rattle.lz_types.proofs.declarations.are_constant.Goals as goal
 
 pub loop-e-preserved : goal.loop-e-preserved

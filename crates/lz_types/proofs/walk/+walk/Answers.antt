@@ -1,7 +1,6 @@
-use Rattle.std.proofs.Common.{◌≡◌, ◌++◌, map, drop, sym, arith}
+use Rattle.std.proofs.Common.{◌≡◌, map, drop, arith}
 use Rattle.lz_tree.specs.Trees.{expression, expressions_of}
 use Rattle.lz_scopes.specs.ExpressionTypes.{first_want, wants_of, further_want}
-use Rattle.lz_types.specs.Faults.{faults}
 use Rattle.lz_tree.proofs.TreesLemmas.{is_call}
 use Rattle.lz_types.proofs.WalkLemmas.{faults_more, faults_done, call_faults}
 use Rattle.lz_types.proofs.walk.+walk.Goals as goal

@@ -1,4 +1,4 @@
-use Rattle.std.proofs.Common.{◌≡◌, ◌++◌, drop}
+use Rattle.std.proofs.Common.{◌≡◌, ◌++◌}
 use Rattle.lz_scopes.specs.ExpressionTypes.{wants_of, further_want}
 use Rattle.lz_types.proofs.WalkLemmas.{faults_from}
 use Rattle.lz_types.proofs.walk.+walk.Given as goal
