@@ -176,12 +176,7 @@ fn judge_program(alloc: Global, program: Program) -> Result<Ending, Memory>
     ensures printable { IfOk result IsPrintable }
 {
     match check(alloc, program) {
-        Ok(checked) => judge_checked(
-            alloc,
-            checked.program(),
-            checked.scoped(),
-            checked.order(),
-        ),
+        Ok(checked) => judge_checked(alloc, checked.program(), checked.scoped(), checked.order()),
         Err(TypeError::Rule { line, number }) => Ok(Ending::Faulty { line, rule: number }),
         Err(TypeError::Memory) => Err(Memory),
     }

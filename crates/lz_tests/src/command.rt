@@ -133,45 +133,9 @@ const VERDICTS: [Row; 12] = [
     ),
 ];
 
-/// Files that a well-formed tree spells, which has another form.
-const OTHER_FORMS: [Row; 29] = [
+/// Files whose programs break no rule, but have another form.
+const OTHER_FORMS: [Row; 19] = [
     ("int main(void) { return 0; }", NOT_BUILT, 12, "no `return`"),
-    (
-        "int main(void) { x = 1; }",
-        NOT_BUILT,
-        12,
-        "a name that is not declared",
-    ),
-    (
-        "int x; int main(void) { assert(x == y); }",
-        NOT_BUILT,
-        12,
-        "nor one in a check",
-    ),
-    (
-        "int x; int x; int main(void) {}",
-        NOT_BUILT,
-        12,
-        "a name that is declared twice",
-    ),
-    (
-        "int main; int main(void) {}",
-        NOT_BUILT,
-        12,
-        "an object named `main`",
-    ),
-    (
-        "int printf; int main(void) {}",
-        NOT_BUILT,
-        12,
-        "an object with a known name",
-    ),
-    (
-        "int x; int main(void) { assert = 1; }",
-        NOT_BUILT,
-        12,
-        "a known name as a target",
-    ),
     (
         "int x; int main(void) { x = 01; }",
         NOT_BUILT,
@@ -183,12 +147,6 @@ const OTHER_FORMS: [Row; 29] = [
         NOT_BUILT,
         12,
         "a suffix",
-    ),
-    (
-        "int x; int main(void) { x = 2147483648; }",
-        NOT_BUILT,
-        12,
-        "a constant above the greatest `int`",
     ),
     (
         "int x; int main(void) { x = '\\0'; }",
@@ -270,10 +228,66 @@ const OTHER_FORMS: [Row; 29] = [
         12,
         "an initializer that is no constant",
     ),
-    ("int x;", NOT_BUILT, 12, "no `main`"),
     ("int main() {}", NOT_BUILT, 12, "no `void`"),
-    ("int main(void);", NOT_BUILT, 12, "a `main` without a body"),
-    ("int f(void) {}", NOT_BUILT, 12, "another function"),
+];
+
+/// Files near the first form that break a rule.
+const FAULTY: [Row; 10] = [
+    (
+        "int main(void) { x = 1; }",
+        "SOURCE line 1 rule 1\n",
+        4,
+        "a name that is not declared",
+    ),
+    (
+        "int x; int main(void) { assert(x == y); }",
+        "SOURCE line 1 rule 1\n",
+        4,
+        "nor one in a check",
+    ),
+    (
+        "int x; int x; int main(void) {}",
+        "SOURCE line 1 rule 2\n",
+        4,
+        "a name that is declared twice",
+    ),
+    (
+        "int main; int main(void) {}",
+        "SOURCE line 1 rule 2\n",
+        4,
+        "an object named `main`",
+    ),
+    (
+        "int printf; int main(void) {}",
+        "SOURCE line 1 rule 5\n",
+        4,
+        "an object with a known name",
+    ),
+    (
+        "int x; int main(void) { assert = 1; }",
+        "SOURCE line 1 rule 1\n",
+        4,
+        "a known name as a target",
+    ),
+    (
+        "int x; int main(void) { x = 2147483648; }",
+        "SOURCE line 1 rule 11\n",
+        4,
+        "a constant above the greatest `int`",
+    ),
+    ("int x;", "SOURCE line 0 rule 15\n", 4, "no `main`"),
+    (
+        "int main(void);",
+        "SOURCE line 0 rule 15\n",
+        4,
+        "a `main` without a body",
+    ),
+    (
+        "int f(void) {}",
+        "SOURCE line 0 rule 15\n",
+        4,
+        "another function alone",
+    ),
 ];
 
 /// Files that no tree spells.
@@ -361,6 +375,7 @@ pub fn compare_rows(rt: &impl Abort, alloc: Global, rows: &[Row]) -> Result<(), 
 fn reports_of_files(rt: HostRuntime) -> Result<(), Fail> {
     compare_rows(&rt, rt.alloc(), &VERDICTS)?;
     compare_rows(&rt, rt.alloc(), &OTHER_FORMS)?;
+    compare_rows(&rt, rt.alloc(), &FAULTY)?;
     compare_rows(&rt, rt.alloc(), &REFUSED)
 }
 

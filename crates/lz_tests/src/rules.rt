@@ -13,99 +13,485 @@ use std::test::Fail;
 
 /// A program for each rule that breaks it.
 const BROKEN: [Row; 24] = [
-    ("int main(void) {\n return y; }", "SOURCE line 2 rule 1\n", 4, "rule 1: what breaks it"),
-    ("int x;\nint x; int main(void) { }", "SOURCE line 2 rule 2\n", 4, "rule 2: what breaks it"),
-    ("int main(void) {\n g(); }", "SOURCE line 2 rule 3\n", 4, "rule 3: what breaks it"),
-    ("void f(int a) { } int main(void) {\n f(); }", "SOURCE line 2 rule 4\n", 4, "rule 4: what breaks it"),
-    ("int assert; int main(void) { }", "SOURCE line 1 rule 5\n", 4, "rule 5: what breaks it"),
-    ("void f(void) { } int main(void) {\n return f(); }", "SOURCE line 2 rule 6\n", 4, "rule 6: what breaks it"),
-    ("int a[2]; int main(void) {\n return a + 1; }", "SOURCE line 2 rule 7\n", 4, "rule 7: what breaks it"),
-    ("int a[0]; int main(void) { }", "SOURCE line 1 rule 8\n", 4, "rule 8: what breaks it"),
-    ("int x; int y = x; int main(void) { }", "SOURCE line 1 rule 9\n", 4, "rule 9: what breaks it"),
-    ("int x = { 1 }; int main(void) { }", "SOURCE line 1 rule 10\n", 4, "rule 10: what breaks it"),
-    ("int x =\n2147483648; int main(void) { }", "SOURCE line 2 rule 11\n", 4, "rule 11: what breaks it"),
-    ("int main(void) {\n break; }", "SOURCE line 2 rule 12\n", 4, "rule 12: what breaks it"),
-    ("int main(void) {\n return; }", "SOURCE line 2 rule 13\n", 4, "rule 13: what breaks it"),
-    ("int f(int n) {\n return f(n); } int main(void) { }", "SOURCE line 2 rule 14\n", 4, "rule 14: what breaks it"),
-    ("int x;", "SOURCE line 0 rule 15\n", 4, "rule 15: what breaks it"),
-    ("pthread_t t; int main(void) {\n pthread_create(&t, 0, main, 0); }", "SOURCE line 2 rule 16\n", 4, "rule 16: what breaks it"),
-    ("void *f(void *a) { pthread_t\nt; return a; } int main(void) { }", "SOURCE line 2 rule 17\n", 4, "rule 17: what breaks it"),
-    ("int f(\nvoid *a) { return 0; } int main(void) { }", "SOURCE line 2 rule 18\n", 4, "rule 18: what breaks it"),
-    ("int main(void) { pthread_mutex_t\nm; }", "SOURCE line 2 rule 19\n", 4, "rule 19: what breaks it"),
-    ("int x; int main(void) {\n return &x; }", "SOURCE line 2 rule 20\n", 4, "rule 20: what breaks it"),
-    ("pthread_mutex_t m; int main(void) {\n pthread_mutex_init(&m, 1); }", "SOURCE line 2 rule 21\n", 4, "rule 21: what breaks it"),
-    ("int main(void) {\n printf(1); }", "SOURCE line 2 rule 22\n", 4, "rule 22: what breaks it"),
-    ("long\nx; int main(void) { }", "SOURCE line 1 rule 24\n", 4, "rule 24: what breaks it"),
-    ("\nint f(int); int f(unsigned a) { return 0; } int main(void) { }", "SOURCE line 2 rule 25\n", 4, "rule 25: what breaks it"),
+    (
+        "int main(void) {\n return y; }",
+        "SOURCE line 2 rule 1\n",
+        4,
+        "rule 1: what breaks it",
+    ),
+    (
+        "int x;\nint x; int main(void) { }",
+        "SOURCE line 2 rule 2\n",
+        4,
+        "rule 2: what breaks it",
+    ),
+    (
+        "int main(void) {\n g(); }",
+        "SOURCE line 2 rule 3\n",
+        4,
+        "rule 3: what breaks it",
+    ),
+    (
+        "void f(int a) { } int main(void) {\n f(); }",
+        "SOURCE line 2 rule 4\n",
+        4,
+        "rule 4: what breaks it",
+    ),
+    (
+        "int assert; int main(void) { }",
+        "SOURCE line 1 rule 5\n",
+        4,
+        "rule 5: what breaks it",
+    ),
+    (
+        "void f(void) { } int main(void) {\n return f(); }",
+        "SOURCE line 2 rule 6\n",
+        4,
+        "rule 6: what breaks it",
+    ),
+    (
+        "int a[2]; int main(void) {\n return a + 1; }",
+        "SOURCE line 2 rule 7\n",
+        4,
+        "rule 7: what breaks it",
+    ),
+    (
+        "int a[0]; int main(void) { }",
+        "SOURCE line 1 rule 8\n",
+        4,
+        "rule 8: what breaks it",
+    ),
+    (
+        "int x; int y = x; int main(void) { }",
+        "SOURCE line 1 rule 9\n",
+        4,
+        "rule 9: what breaks it",
+    ),
+    (
+        "int x = { 1 }; int main(void) { }",
+        "SOURCE line 1 rule 10\n",
+        4,
+        "rule 10: what breaks it",
+    ),
+    (
+        "int x =\n2147483648; int main(void) { }",
+        "SOURCE line 2 rule 11\n",
+        4,
+        "rule 11: what breaks it",
+    ),
+    (
+        "int main(void) {\n break; }",
+        "SOURCE line 2 rule 12\n",
+        4,
+        "rule 12: what breaks it",
+    ),
+    (
+        "int main(void) {\n return; }",
+        "SOURCE line 2 rule 13\n",
+        4,
+        "rule 13: what breaks it",
+    ),
+    (
+        "int f(int n) {\n return f(n); } int main(void) { }",
+        "SOURCE line 2 rule 14\n",
+        4,
+        "rule 14: what breaks it",
+    ),
+    (
+        "int x;",
+        "SOURCE line 0 rule 15\n",
+        4,
+        "rule 15: what breaks it",
+    ),
+    (
+        "pthread_t t; int main(void) {\n pthread_create(&t, 0, main, 0); }",
+        "SOURCE line 2 rule 16\n",
+        4,
+        "rule 16: what breaks it",
+    ),
+    (
+        "void *f(void *a) { pthread_t\nt; return a; } int main(void) { }",
+        "SOURCE line 2 rule 17\n",
+        4,
+        "rule 17: what breaks it",
+    ),
+    (
+        "int f(\nvoid *a) { return 0; } int main(void) { }",
+        "SOURCE line 2 rule 18\n",
+        4,
+        "rule 18: what breaks it",
+    ),
+    (
+        "int main(void) { pthread_mutex_t\nm; }",
+        "SOURCE line 2 rule 19\n",
+        4,
+        "rule 19: what breaks it",
+    ),
+    (
+        "int x; int main(void) {\n return &x; }",
+        "SOURCE line 2 rule 20\n",
+        4,
+        "rule 20: what breaks it",
+    ),
+    (
+        "pthread_mutex_t m; int main(void) {\n pthread_mutex_init(&m, 1); }",
+        "SOURCE line 2 rule 21\n",
+        4,
+        "rule 21: what breaks it",
+    ),
+    (
+        "int main(void) {\n printf(1); }",
+        "SOURCE line 2 rule 22\n",
+        4,
+        "rule 22: what breaks it",
+    ),
+    (
+        "long\nx; int main(void) { }",
+        "SOURCE line 1 rule 24\n",
+        4,
+        "rule 24: what breaks it",
+    ),
+    (
+        "\nint f(int); int f(unsigned a) { return 0; } int main(void) { }",
+        "SOURCE line 2 rule 25\n",
+        4,
+        "rule 25: what breaks it",
+    ),
 ];
 
 /// A program for each rule that comes near it, and breaks none.
 const NEAR: [Row; 24] = [
-    ("int main(void) { int y = y; return y; }", NOT_BUILT, 12, "rule 1: what comes near"),
-    ("int x; int main(void) { int x; { int x; } for (int x; ; ) int x; }", NOT_BUILT, 12, "rule 2: what comes near"),
-    ("int main(void) { g(); } void g(void) { }", NOT_BUILT, 12, "rule 3: what comes near"),
-    ("int main(void) { printf(\"%d %d\", 1, 2); }", NOT_BUILT, 12, "rule 4: what comes near"),
-    ("int reach_error; int f(int reach_error) { return reach_error; } void assert(int); int main(void) { }", NOT_BUILT, 12, "rule 5: what comes near"),
-    ("void f(void) { } int main(void) { f(); (f()); for (f(); 0; (f())) ; }", NOT_BUILT, 12, "rule 6: what comes near"),
-    ("int a[2]; int main(void) { return a[1] + (int)NULL; }", NOT_BUILT, 12, "rule 7: what comes near"),
-    ("int a[1], b[4096]; int main(void) { }", NOT_BUILT, 12, "rule 8: what comes near"),
-    ("int x; int main(void) { int y = x; return y; }", NOT_BUILT, 12, "rule 9: what comes near"),
-    ("int x[2] = { 1, }; pthread_mutex_t m = PTHREAD_MUTEX_INITIALIZER; int main(void) { }", NOT_BUILT, 12, "rule 10: what comes near"),
-    ("unsigned x = 4294967295u; int y = 2147483647, z = 0xffffffff; int main(void) { }", NOT_BUILT, 12, "rule 11: what comes near"),
-    ("int main(void) { while (1) { if (1) continue; break; } }", NOT_BUILT, 12, "rule 12: what comes near"),
-    ("void f(void) { return; } int main(void) { return 0; }", NOT_BUILT, 12, "rule 13: what comes near"),
-    ("void a(void) { } void b(void) { a(); a(); } int main(void) { b(); a(); }", NOT_BUILT, 12, "rule 14: what comes near"),
-    ("signed main() { }", NOT_BUILT, 12, "rule 15: what comes near"),
-    ("pthread_t t; int main(void) { pthread_create(&t, 0, f, 0); } void *f(void *a) { return a; }", NOT_BUILT, 12, "rule 16: what comes near"),
-    ("void g(void) { pthread_t t; } int main(void) { g(); }", NOT_BUILT, 12, "rule 17: what comes near"),
-    ("void *f(void *a); void *f(void *a) { return a; } int main(void) { }", NOT_BUILT, 12, "rule 18: what comes near"),
-    ("pthread_mutex_t m; pthread_cond_t c[2]; int main(void) { }", NOT_BUILT, 12, "rule 19: what comes near"),
-    ("pthread_mutex_t m[2]; int main(void) { pthread_mutex_lock(&m[1]); }", NOT_BUILT, 12, "rule 20: what comes near"),
-    ("pthread_mutex_t m; pthread_t t; int main(void) { pthread_mutex_init(&m, '\\0'); pthread_join(t, NULL); }", NOT_BUILT, 12, "rule 21: what comes near"),
-    ("int main(void) { printf(\"a\"); }", NOT_BUILT, 12, "rule 22: what comes near"),
-    ("signed int x; unsigned int y = 1u; int main(void) { }", NOT_BUILT, 12, "rule 24: what comes near"),
-    ("int f(); int f(int a) { return a; } signed f(signed int); int main(void) { }", NOT_BUILT, 12, "rule 25: what comes near"),
+    (
+        "int main(void) { int y = y; return y; }",
+        NOT_BUILT,
+        12,
+        "rule 1: what comes near",
+    ),
+    (
+        "int x; int main(void) { int x; { int x; } for (int x; ; ) int x; }",
+        NOT_BUILT,
+        12,
+        "rule 2: what comes near",
+    ),
+    (
+        "int main(void) { g(); } void g(void) { }",
+        NOT_BUILT,
+        12,
+        "rule 3: what comes near",
+    ),
+    (
+        "int main(void) { printf(\"%d %d\", 1, 2); }",
+        NOT_BUILT,
+        12,
+        "rule 4: what comes near",
+    ),
+    (
+        "int reach_error; int f(int reach_error) { return reach_error; } void assert(int); int main(void) { }",
+        NOT_BUILT,
+        12,
+        "rule 5: what comes near",
+    ),
+    (
+        "void f(void) { } int main(void) { f(); (f()); for (f(); 0; (f())) ; }",
+        NOT_BUILT,
+        12,
+        "rule 6: what comes near",
+    ),
+    (
+        "int a[2]; int main(void) { return a[1] + (int)NULL; }",
+        NOT_BUILT,
+        12,
+        "rule 7: what comes near",
+    ),
+    (
+        "int a[1], b[4096]; int main(void) { }",
+        NOT_BUILT,
+        12,
+        "rule 8: what comes near",
+    ),
+    (
+        "int x; int main(void) { int y = x; return y; }",
+        NOT_BUILT,
+        12,
+        "rule 9: what comes near",
+    ),
+    (
+        "int x[2] = { 1, }; pthread_mutex_t m = PTHREAD_MUTEX_INITIALIZER; int main(void) { }",
+        NOT_BUILT,
+        12,
+        "rule 10: what comes near",
+    ),
+    (
+        "unsigned x = 4294967295u; int y = 2147483647, z = 0xffffffff; int main(void) { }",
+        NOT_BUILT,
+        12,
+        "rule 11: what comes near",
+    ),
+    (
+        "int main(void) { while (1) { if (1) continue; break; } }",
+        NOT_BUILT,
+        12,
+        "rule 12: what comes near",
+    ),
+    (
+        "void f(void) { return; } int main(void) { return 0; }",
+        NOT_BUILT,
+        12,
+        "rule 13: what comes near",
+    ),
+    (
+        "void a(void) { } void b(void) { a(); a(); } int main(void) { b(); a(); }",
+        NOT_BUILT,
+        12,
+        "rule 14: what comes near",
+    ),
+    (
+        "signed main() { }",
+        NOT_BUILT,
+        12,
+        "rule 15: what comes near",
+    ),
+    (
+        "pthread_t t; int main(void) { pthread_create(&t, 0, f, 0); } void *f(void *a) { return a; }",
+        NOT_BUILT,
+        12,
+        "rule 16: what comes near",
+    ),
+    (
+        "void g(void) { pthread_t t; } int main(void) { g(); }",
+        NOT_BUILT,
+        12,
+        "rule 17: what comes near",
+    ),
+    (
+        "void *f(void *a); void *f(void *a) { return a; } int main(void) { }",
+        NOT_BUILT,
+        12,
+        "rule 18: what comes near",
+    ),
+    (
+        "pthread_mutex_t m; pthread_cond_t c[2]; int main(void) { }",
+        NOT_BUILT,
+        12,
+        "rule 19: what comes near",
+    ),
+    (
+        "pthread_mutex_t m[2]; int main(void) { pthread_mutex_lock(&m[1]); }",
+        NOT_BUILT,
+        12,
+        "rule 20: what comes near",
+    ),
+    (
+        "pthread_mutex_t m; pthread_t t; int main(void) { pthread_mutex_init(&m, '\\0'); pthread_join(t, NULL); }",
+        NOT_BUILT,
+        12,
+        "rule 21: what comes near",
+    ),
+    (
+        "int main(void) { printf(\"a\"); }",
+        NOT_BUILT,
+        12,
+        "rule 22: what comes near",
+    ),
+    (
+        "signed int x; unsigned int y = 1u; int main(void) { }",
+        NOT_BUILT,
+        12,
+        "rule 24: what comes near",
+    ),
+    (
+        "int f(); int f(int a) { return a; } signed f(signed int); int main(void) { }",
+        NOT_BUILT,
+        12,
+        "rule 25: what comes near",
+    ),
 ];
 
 /// Programs that break several rules, of which the first is told.
 const ORDER: [Row; 24] = [
-    ("int x;\nint main(void) { x = y +\n z(); }", "SOURCE line 2 rule 1\n", 4, "rule 1: operands go from left to right"),
-    ("int x;\nint x = y; int main(void) { }", "SOURCE line 2 rule 2\n", 4, "rule 2: by number before the value of a declarator"),
-    ("int main(void) { g(\ny); }", "SOURCE line 1 rule 3\n", 4, "rule 3: a call before its arguments"),
-    ("int main(void) { assert(\ny, 1); }", "SOURCE line 1 rule 4\n", 4, "rule 4: a call before its arguments"),
-    ("int x;\nvoid abort = x; int main(void) { }", "SOURCE line 2 rule 5\n", 4, "rule 5: by number at one declarator"),
-    ("void f(void) { } int main(void) { int x =\nf() + y; }", "SOURCE line 2 rule 6\n", 4, "rule 6: operands go from left to right"),
-    ("pthread_mutex_t m; int main(void) { return m +\ny; }", "SOURCE line 1 rule 7\n", 4, "rule 7: operands go from left to right"),
-    ("int n; int a[\nn + y]; int main(void) { }", "SOURCE line 1 rule 8\n", 4, "rule 8: a declarator before its length"),
-    ("int y =\nz; int main(void) { }", "SOURCE line 1 rule 9\n", 4, "rule 9: a declarator before its value"),
-    ("int x[1] = { 1,\n2147483648 }; int main(void) { }", "SOURCE line 1 rule 10\n", 4, "rule 10: a declarator before its values"),
-    ("int main(void) { return 4294967296u +\ny; }", "SOURCE line 1 rule 11\n", 4, "rule 11: operands go from left to right"),
-    ("int main(void) { while (1) ;\n continue;\n return; }", "SOURCE line 2 rule 12\n", 4, "rule 12: in the order of the text"),
-    ("void f(void) { return\ny; } int main(void) { }", "SOURCE line 1 rule 13\n", 4, "rule 13: a return before its value"),
-    ("int f(int n) { return f(\ny, 1); } int main(void) { }", "SOURCE line 1 rule 4\n", 4, "rule 14: by number at one call"),
-    ("unsigned main(void) {\n return y; }", "SOURCE line 2 rule 1\n", 4, "rule 15: the file comes last"),
-    ("pthread_t t; int main(void) { pthread_create(\nt, y, main, 0); }", "SOURCE line 1 rule 16\n", 4, "rule 16: by number at one call, before its arguments"),
-    ("void *f(void *a) { pthread_join(\n1, 1); return a; } int main(void) { }", "SOURCE line 1 rule 17\n", 4, "rule 17: by number at one call"),
-    ("void *f(int a,\nint a) { return 0; } int main(void) { }", "SOURCE line 1 rule 18\n", 4, "rule 18: a function before its parameters"),
-    ("int f(pthread_mutex_t m,\nvoid a) { } int main(void) { }", "SOURCE line 1 rule 19\n", 4, "rule 19: parameters go from left to right"),
-    ("pthread_mutex_t m; int main(void) { pthread_mutex_init(m,\ny); }", "SOURCE line 1 rule 20\n", 4, "rule 20: by number at one call, before its arguments"),
-    ("pthread_mutex_t m; int main(void) { pthread_mutex_init(&m,\ny); }", "SOURCE line 1 rule 21\n", 4, "rule 21: a call before its arguments"),
-    ("int main(void) { printf(\ny, \"b\"); }", "SOURCE line 1 rule 22\n", 4, "rule 22: a call before its arguments"),
-    ("char\nx,\nx; int main(void) { }", "SOURCE line 1 rule 24\n", 4, "rule 24: a declaration before its declarators"),
-    ("int f(int,\nvoid); int f(int a) { return a; } int main(void) { }", "SOURCE line 1 rule 25\n", 4, "rule 25: a prototype before its parameters"),
+    (
+        "int x;\nint main(void) { x = y +\n z(); }",
+        "SOURCE line 2 rule 1\n",
+        4,
+        "rule 1: operands go from left to right",
+    ),
+    (
+        "int x;\nint x = y; int main(void) { }",
+        "SOURCE line 2 rule 2\n",
+        4,
+        "rule 2: by number before the value of a declarator",
+    ),
+    (
+        "int main(void) { g(\ny); }",
+        "SOURCE line 1 rule 3\n",
+        4,
+        "rule 3: a call before its arguments",
+    ),
+    (
+        "int main(void) { assert(\ny, 1); }",
+        "SOURCE line 1 rule 4\n",
+        4,
+        "rule 4: a call before its arguments",
+    ),
+    (
+        "int x;\nvoid abort = x; int main(void) { }",
+        "SOURCE line 2 rule 5\n",
+        4,
+        "rule 5: by number at one declarator",
+    ),
+    (
+        "void f(void) { } int main(void) { int x =\nf() + y; }",
+        "SOURCE line 2 rule 6\n",
+        4,
+        "rule 6: operands go from left to right",
+    ),
+    (
+        "pthread_mutex_t m; int main(void) { return m +\ny; }",
+        "SOURCE line 1 rule 7\n",
+        4,
+        "rule 7: operands go from left to right",
+    ),
+    (
+        "int n; int a[\nn + y]; int main(void) { }",
+        "SOURCE line 1 rule 8\n",
+        4,
+        "rule 8: a declarator before its length",
+    ),
+    (
+        "int y =\nz; int main(void) { }",
+        "SOURCE line 1 rule 9\n",
+        4,
+        "rule 9: a declarator before its value",
+    ),
+    (
+        "int x[1] = { 1,\n2147483648 }; int main(void) { }",
+        "SOURCE line 1 rule 10\n",
+        4,
+        "rule 10: a declarator before its values",
+    ),
+    (
+        "int main(void) { return 4294967296u +\ny; }",
+        "SOURCE line 1 rule 11\n",
+        4,
+        "rule 11: operands go from left to right",
+    ),
+    (
+        "int main(void) { while (1) ;\n continue;\n return; }",
+        "SOURCE line 2 rule 12\n",
+        4,
+        "rule 12: in the order of the text",
+    ),
+    (
+        "void f(void) { return\ny; } int main(void) { }",
+        "SOURCE line 1 rule 13\n",
+        4,
+        "rule 13: a return before its value",
+    ),
+    (
+        "int f(int n) { return f(\ny, 1); } int main(void) { }",
+        "SOURCE line 1 rule 4\n",
+        4,
+        "rule 14: by number at one call",
+    ),
+    (
+        "unsigned main(void) {\n return y; }",
+        "SOURCE line 2 rule 1\n",
+        4,
+        "rule 15: the file comes last",
+    ),
+    (
+        "pthread_t t; int main(void) { pthread_create(\nt, y, main, 0); }",
+        "SOURCE line 1 rule 16\n",
+        4,
+        "rule 16: by number at one call, before its arguments",
+    ),
+    (
+        "void *f(void *a) { pthread_join(\n1, 1); return a; } int main(void) { }",
+        "SOURCE line 1 rule 17\n",
+        4,
+        "rule 17: by number at one call",
+    ),
+    (
+        "void *f(int a,\nint a) { return 0; } int main(void) { }",
+        "SOURCE line 1 rule 18\n",
+        4,
+        "rule 18: a function before its parameters",
+    ),
+    (
+        "int f(pthread_mutex_t m,\nvoid a) { } int main(void) { }",
+        "SOURCE line 1 rule 19\n",
+        4,
+        "rule 19: parameters go from left to right",
+    ),
+    (
+        "pthread_mutex_t m; int main(void) { pthread_mutex_init(m,\ny); }",
+        "SOURCE line 1 rule 20\n",
+        4,
+        "rule 20: by number at one call, before its arguments",
+    ),
+    (
+        "pthread_mutex_t m; int main(void) { pthread_mutex_init(&m,\ny); }",
+        "SOURCE line 1 rule 21\n",
+        4,
+        "rule 21: a call before its arguments",
+    ),
+    (
+        "int main(void) { printf(\ny, \"b\"); }",
+        "SOURCE line 1 rule 22\n",
+        4,
+        "rule 22: a call before its arguments",
+    ),
+    (
+        "char\nx,\nx; int main(void) { }",
+        "SOURCE line 1 rule 24\n",
+        4,
+        "rule 24: a declaration before its declarators",
+    ),
+    (
+        "int f(int,\nvoid); int f(int a) { return a; } int main(void) { }",
+        "SOURCE line 1 rule 25\n",
+        4,
+        "rule 25: a prototype before its parameters",
+    ),
 ];
 
 /// The limits on slots and cost, at two turns of a loop and two rounds.
 const LIMITS: [Row; 5] = [
-    ("int main(void) { int a[4096], b[782]; (int)0; (int)0; (int)0; }", NOT_BUILT, 12, "as much as a program may cost"),
-    ("int main(void) { int a[4096], b[782]; (int)0; (int)0; (int)0; (int)0; }", "LIMIT cost 10000384 over 10000000\n", 5, "one cast more"),
-    ("void *f(void *a) { } pthread_t t; int main(void) { while (1) do do do pthread_create(&t, 0, f, 0); while (1); while (1); while (1); }", NOT_BUILT, 12, "sixteen slots"),
-    ("void *f(void *a) { } pthread_t t; int g(void) { return pthread_create(&t, 0, f, 0); } int main(void) { while (1) do do do g(); while (1); while (1); while (1); g(); }", "LIMIT slots 17 over 16\n", 5, "a slot more, through a call"),
-    ("void *f(void *a) { } int main(void) { pthread_t t; while (1) do { for (pthread_create(&t, 0, f, 0); pthread_create(&t, 0, f, 0); pthread_create(&t, 0, f, 0)) ; } while (pthread_create(&t, 0, f, 0)); }", "LIMIT slots 28 over 16\n", 5, "sites in each part of loops"),
+    (
+        "int main(void) { int a[4096], b[782]; (int)0; (int)0; (int)0; }",
+        NOT_BUILT,
+        12,
+        "as much as a program may cost",
+    ),
+    (
+        "int main(void) { int a[4096], b[782]; (int)0; (int)0; (int)0; (int)0; }",
+        "LIMIT cost 10000384 over 10000000\n",
+        5,
+        "one cast more",
+    ),
+    (
+        "void *f(void *a) { } pthread_t t; int main(void) { while (1) do do do pthread_create(&t, 0, f, 0); while (1); while (1); while (1); }",
+        NOT_BUILT,
+        12,
+        "sixteen slots",
+    ),
+    (
+        "void *f(void *a) { } pthread_t t; int g(void) { return pthread_create(&t, 0, f, 0); } int main(void) { while (1) do do do g(); while (1); while (1); while (1); g(); }",
+        "LIMIT slots 17 over 16\n",
+        5,
+        "a slot more, through a call",
+    ),
+    (
+        "void *f(void *a) { } int main(void) { pthread_t t; while (1) do { for (pthread_create(&t, 0, f, 0); pthread_create(&t, 0, f, 0); pthread_create(&t, 0, f, 0)) ; } while (pthread_create(&t, 0, f, 0)); }",
+        "LIMIT slots 28 over 16\n",
+        5,
+        "sites in each part of loops",
+    ),
 ];
 
 /// What stands before the statements of a row of costs.
-const BEFORE: &str = "int x, a[3]; unsigned u; pthread_mutex_t m, mm[4]; pthread_cond_t c, cc[5]; pthread_t t, tt[6];\nvoid v(void) { } int w(int i, unsigned j) { return i; } void *s(void *p) { return p; }\n";
+const BEFORE: &str =
+    "int x, a[3]; unsigned u; pthread_mutex_t m, mm[4]; pthread_cond_t c, cc[5]; pthread_t t, tt[6];\nvoid v(void) { } int w(int i, unsigned j) { return i; } void *s(void *p) { return p; }\n";
 
 /// Statements of `main`, and what they cost at two turns of a loop.
 const COSTS: [(&str, u64); 91] = [
@@ -199,7 +585,10 @@ const COSTS: [(&str, u64); 91] = [
     ("pthread_create(&t, 0, s, 0);", 14592),
     ("pthread_create(&tt[x], 0, s, (void *)x);", 18176),
     ("pthread_create(&t, 0, s, 0); pthread_join(t, 0);", 19968),
-    ("pthread_cond_signal(&c); while (1) pthread_create(&t, 0, s, 0);", 39168),
+    (
+        "pthread_cond_signal(&c); while (1) pthread_create(&t, 0, s, 0);",
+        39168,
+    ),
 ];
 
 /// What `main` costs beside them: itself and the two arrays that bring the cost over the limit.
@@ -284,9 +673,19 @@ fn rules_of_large_files(rt: HostRuntime) -> Result<(), Fail> {
         compare(&rt, &told, report, status, behind);
     }
     let rows: [(u32, &str, &str, u8); 3] = [
-        (16, "int\nx; int main(void) { }", "SOURCE line 2 rule 23\n", 4),
+        (
+            16,
+            "int\nx; int main(void) { }",
+            "SOURCE line 2 rule 23\n",
+            4,
+        ),
         (16, "int main(void) { int x; }", NOT_BUILT, 12),
-        (16, "int\nx = y; int main(void) { }", "SOURCE line 2 rule 9\n", 4),
+        (
+            16,
+            "int\nx = y; int main(void) { }",
+            "SOURCE line 2 rule 9\n",
+            4,
+        ),
     ];
     for (count, behind, report, status) in rows {
         let text = arrays(alloc, count, behind).ok().ok_or("memory")?;
@@ -368,7 +767,8 @@ fn other_bounds(rt: HostRuntime) -> Result<(), Fail> {
         2,
     )?;
     assert_eq!(rt; loops.1, 417874751488);
-    let threads = "void *f(void *a) { return NULL; } int main(void) { pthread_t t; while (1) pthread_create(&t, NULL, f, NULL); }";
+    let threads =
+        "void *f(void *a) { return NULL; } int main(void) { pthread_t t; while (1) pthread_create(&t, NULL, f, NULL); }";
     assert_eq!(rt; measured(alloc, threads, 17, 2)?.0, 17);
     assert_eq!(rt; measured(alloc, threads, 16, 2)?.0, 16);
     Ok(())

@@ -206,7 +206,7 @@ module _ (unit : TranslationUnit) (facts : Facts) where
         let w : Want = choice_want (type_of file p first) (type_of file p second) in
         let own : List Fault = node file p want (choose line test first second) in
         let rest : faults file p wants.Integer test ++ (faults file p w first ++ faults file p w second) ≡ [] =
-            back own (faults file p wants.Integer test ++ (faults file p w first ++ faults file p w second)) clear in
+        back own (faults file p wants.Integer test ++ (faults file p w first ++ faults file p w second)) clear in
         let both_parts : faults file p w first ++ faults file p w second ≡ [] = back (faults file p wants.Integer test) (faults file p w first ++ faults file p w second) rest in
         both _ _ _ _ (leads p f i wants.Integer test (front (faults file p wants.Integer test) (faults file p w first ++ faults file p w second) rest))
         (both _ _ _ _ (leads p f i w first (front (faults file p w first) (faults file p w second) both_parts)) (leads p f i w second (back (faults file p w first) (faults file p w second) both_parts)))
@@ -345,7 +345,7 @@ module _ (unit : TranslationUnit) (facts : Facts) where
       let inner : Place = after_body (into_body p gives name params) body in
       let q : Place = past p name inner in
       let all : Lead file (q.function + k) (statement_calls (body_at (scope_externals (bare unit) q rest) k)) =
-          externals_lead q rest flat (back _ _ clear) k (omega (arith, low)) in
+      externals_lead q rest flat (back _ _ clear) k (omega (arith, low)) in
       let next : q.function + k ≡ p.function + suc k = omega arith in
       subst (λ (n : ℕ). Lead file n (statement_calls (body_at (scope_externals (bare unit) q rest) k))) next all
 
