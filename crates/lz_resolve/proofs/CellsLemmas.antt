@@ -1,16 +1,13 @@
--- First words of cells, added from left to right; and the number of `main`.
-use Rattle.std.proofs.Common.{◌≡◌, ℕ, ◌+◌, ◌-◌, ◌<◌, ◌≤◌, suc, Bool, true, false, List, [], ◌∷◌, ◌++◌, length, map, drop, get_or, replicate, Option, Some, None, is_some, if◌then◌else◌, refl, sym, ap, ◌∙◌, arith, append_assoc, append-nil, drop_of_length-le}
+-- First words of cells, added from left to right.
+use Rattle.std.proofs.Common.{◌≡◌, ℕ, ◌+◌, ◌-◌, ◌<◌, ◌≤◌, suc, List, [], ◌∷◌, ◌++◌, length, map, drop, get_or, replicate, refl, sym, ap, ◌∙◌, arith, append_assoc, append-nil, drop_of_length-le}
 use Rattle.std.proofs.lemmas.List.{replicate-append-replicate}
 use Rattle.lz_tree.specs.declared.expression.Expr.{Expr}
 use Rattle.lz_tree.specs.declared.program.External.{External}
 use Rattle.lz_tree.specs.declared.statement.Declarator.{Declarator}
 use Rattle.lz_tree.specs.Trees.{ExternalDeclaration, objects, prototype, function, expression, expressions_of, init_declarator, external_declaration}
 use Rattle.lz_scopes.specs.Constants.{constant_value, elements}
-use Rattle.lz_scopes.specs.Files.{File, is_main, main_from}
-use Rattle.lz_scopes.specs.Scopes.{signature_in, signatures}
 use Rattle.lz_scopes.proofs.ArgumentsLemmas.{drop_item}
 use Rattle.lz_resolve.specs.ScopedPrograms.{word_in, words_in, first_words, declarators_words, declaration_words, cells_of}
-use Rattle.lz_resolve.proofs.FunctionsLemmas.{externals_from, next_external, no_external}
 
 -- Words so far, and those of the items that are left, are the words before and those of all.
 pub record Adds {A : Type 0} (words : List A → List ℕ) (start : List ℕ) (all : List A) (now : List ℕ) (rest : List A) : Type 0 where
@@ -45,6 +42,11 @@ pub values_count : (es : List Expr) → length (words_in (expressions_of (map ex
 values_count [] = refl
 values_count (e ∷ rest) = ap suc (values_count rest)
 
+pub listed_words : (start with_values now : List ℕ) (count : ℕ) (es : List Expr) → with_values ≡ start ++ words_of_values es → now ≡ with_values ++ replicate (count - length es) 0
+    → now ≡ start ++ (words_of_values es ++ replicate (count - length (words_of_values es)) 0)
+listed_words start with_values now count es words zeros =
+    rw (zeros, words, values_count es) (append_assoc start (words_of_values es) (replicate (count - length es) 0))
+
 -- ---- declarators
 
 abbrev pub words_of_declarators : List Declarator → List ℕ
@@ -62,14 +64,14 @@ declarators_all start now all ds i adds over = adds_all words_of_declarators ref
 
 -- ---- external declarations
 
-unfolding cells_of
 pub cells_first : (e : ExternalDeclaration) (rest : List ExternalDeclaration) → cells_of (e ∷ rest) ≡ cells_of (e ∷ []) ++ cells_of rest
+unfolding cells_of
 cells_first (objects hidden of) rest = rw (append-nil (declaration_words of)) refl
 cells_first (prototype line lead gives name params void_word) rest = refl
 cells_first (function line hidden gives name params void_word body) rest = refl
 
-unfolding cells_of
 cells_nothing : cells_of [] ≡ []
+unfolding cells_of
 cells_nothing = refl
 
 abbrev pub words_of_externals : List External → List ℕ
@@ -91,33 +93,7 @@ externals_all start now all es i adds over = adds_all words_of_externals cells_n
 pub zeros_more : (start now now' : List ℕ) (n : ℕ) → now ≡ start ++ replicate n 0 → now' ≡ now ++ 0 ∷ [] → now' ≡ start ++ replicate (n + 1) 0
 zeros_more start now now' n so_far more = rw (more, so_far) (append_assoc start (replicate n 0) (0 ∷ []) ∙ ap (λ (xs : List ℕ). start ++ xs) (replicate-append-replicate n 1 0))
 
--- ---- the number of `main`
-
-pub some_if : (b : Bool) (n : ℕ) → is_some (if b then Some n else None) ≡ b
-some_if true n = refl
-some_if false n = refl
-
--- an external declaration is a function that is called `main`
-abbrev pub is_main_in : File → ExternalDeclaration → Bool
-is_main_in file e = is_some (main_from file 0 (signature_in e))
-
-main_if : (file : File) (n : ℕ) (e : ExternalDeclaration) (rest : List ExternalDeclaration)
-    → main_from file n (signatures (e ∷ rest)) ≡ (if is_main_in file e then Some n else main_from file (n + length (signature_in e)) (signatures rest))
-main_if file n (objects hidden of) rest = let same : n + 0 ≡ n = omega arith in rw same refl
-main_if file n (prototype line lead gives name params void_word) rest = let same : n + 0 ≡ n = omega arith in rw same refl
-main_if file n (function line hidden gives name params void_word body) rest = rw (some_if (is_main file name) 0) refl
-
-pub main_here : (file : File) (n : ℕ) (es : List External) (i : ℕ) (e : External) → i < length es → e ≡ get_or es i e → is_main_in file (external_declaration e) ≡ true
-    → main_from file n (signatures (externals_from es i)) ≡ Some n
-main_here file n es i e below is main = rw (next_external es i e below is) (main_if file n (external_declaration e) (externals_from es (i + 1)) ∙ rw main refl)
-
-pub main_later : (file : File) (all : Option ℕ) (n n' : ℕ) (es : List External) (i : ℕ) (e : External) → all ≡ main_from file n (signatures (externals_from es i)) → i < length es → e ≡ get_or es i e
-    → is_main_in file (external_declaration e) ≡ false → n' ≡ n + length (signature_in (external_declaration e)) → all ≡ main_from file n' (signatures (externals_from es (i + 1)))
-main_later file all n n' es i e so_far below is main next =
-    so_far ∙ rw (next_external es i e below is, next) (main_if file n (external_declaration e) (externals_from es (i + 1)) ∙ rw main refl)
-
-pub main_nowhere : (file : File) (n : ℕ) (es : List External) (i : ℕ) → length es ≤ i → main_from file n (signatures (externals_from es i)) ≡ None
-main_nowhere file n es i over = rw (no_external es i over) refl
+-- ---- words alone
 
 pub words_alone : (words : List ℕ) → words ++ [] ≡ words
 words_alone words = append-nil words

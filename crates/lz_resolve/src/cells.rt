@@ -1,5 +1,5 @@
-ghost use Rattle.std.specs.Prelude.{◌≡◌, ◌++◌, [], ◌∷◌, map, replicate, OnOk, IfOk};
-ghost use Rattle.lz_tree.specs.Trees.{expression, expressions_of, initializer, init_declarator, declaration, external_declaration};
+ghost use Rattle.std.specs.Prelude.{◌≡◌, ◌++◌, [], ◌∷◌, false, map, replicate, OnOk, IfOk};
+ghost use Rattle.lz_tree.specs.Trees.{expression, expressions_of, listed, initializer, init_declarator, declaration, external_declaration};
 ghost use Rattle.lz_scopes.specs.Constants as constants;
 ghost use Rattle.lz_resolve.specs.ScopedPrograms as spec;
 
@@ -38,6 +38,16 @@ fn push_words(cells: &mut Values, values: &[Expr]) -> Result<(), Memory>
     Ok(())
 }
 
+/// Adds the first words of so many elements with a list of values.
+fn push_listed(cells: &mut Values, count: usize, values: &[Expr]) -> Result<(), Memory>
+    ensures { OnOk result (cells.new ≡ cells.old ++ spec.first_words count (listed (expressions_of (map expression values.now)) false)) }
+{
+    push_words(cells, values)?;
+    let zeros = count.saturating_sub(values.len());
+    push_zeros(cells, zeros)?;
+    Ok(())
+}
+
 /// Adds the first words of so many elements.
 fn push_first(cells: &mut Values, count: usize, first: &First) -> Result<(), Memory>
     ensures { OnOk result (cells.new ≡ cells.old ++ spec.first_words count (initializer first.now)) }
@@ -49,8 +59,7 @@ fn push_first(cells: &mut Values, count: usize, first: &First) -> Result<(), Mem
             Ok(())
         }
         First::Listed { values, .. } => {
-            push_words(cells, values)?;
-            push_zeros(cells, count.saturating_sub(values.len()))?;
+            push_listed(cells, count, values)?;
             Ok(())
         }
         First::Nothing | First::Mutex | First::Cond => {
