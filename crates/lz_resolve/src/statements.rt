@@ -1,4 +1,4 @@
-ghost use Rattle.std.specs.Prelude.{◌≡◌, false, map, OnOk, IfOk};
+ghost use Rattle.std.specs.Prelude.{◌≡◌, false, map, option_map, OnOk, IfOk};
 ghost use Rattle.lz_tree.specs.Trees.{statement, statements_of, branch_of};
 ghost use Rattle.lz_tree.specs.ScopedTrees as scoped;
 ghost use Rattle.lz_tree.specs.ScopedTrees.{scoped_expression, scoped_statement, scoped_statements_of, scoped_branch_of};
@@ -36,6 +36,28 @@ fn if_of(
         test,
         yes,
         no,
+    })
+}
+
+/// A loop with a head.
+fn for_of(
+    alloc: Global,
+    line: u32,
+    first: ScopedStmt,
+    test: Option<ScopedExpr>,
+    step: Option<ScopedExpr>,
+    body: ScopedStmt,
+) -> Result<ScopedStmt, AllocError>
+    ensures { IfOk result (λ s. scoped_statement s ≡ scoped.for line (scoped_statement first) (option_map scoped_expression test) (option_map scoped_expression step) (scoped_statement body)) }
+{
+    let first = Box::new(alloc, first)?;
+    let body = Box::new(alloc, body)?;
+    Ok(ScopedStmt::For {
+        line,
+        first,
+        test,
+        step,
+        body,
     })
 }
 
@@ -187,20 +209,13 @@ pub fn resolve_stmt(
         } => {
             let was = place.in_loop;
             let mark = begin(place, false)?;
-            let first = resolve_stmt(alloc, file, place, first)?;
-            let first = Box::new(alloc, first)?;
+            let head = resolve_stmt(alloc, file, place, first)?;
             let test = resolve_optional(alloc, file, place, test)?;
             let step = resolve_optional(alloc, file, place, step)?;
-            let body = resolve_within(alloc, file, place, true, body)?;
-            let body = Box::new(alloc, body)?;
+            let inner = resolve_within(alloc, file, place, true, body)?;
             end(place, mark, was);
-            Ok(ScopedStmt::For {
-                line: *line,
-                first,
-                test,
-                step,
-                body,
-            })
+            let scoped = for_of(alloc, *line, head, test, step, inner)?;
+            Ok(scoped)
         }
         Stmt::Break { line } => Ok(ScopedStmt::Break { line: *line }),
         Stmt::Continue { line } => Ok(ScopedStmt::Continue { line: *line }),

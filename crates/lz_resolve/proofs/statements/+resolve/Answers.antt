@@ -1,11 +1,11 @@
-use Rattle.std.proofs.Common.{map, ◌∙◌}
+use Rattle.std.proofs.Common.{true, map, ◌∙◌}
 use Rattle.lz_tree.specs.Trees.{statement, statements_of}
 use Rattle.lz_tree.proofs.TreesLemmas.{is_block}
 use Rattle.lz_scopes.specs.Scopes.{after}
 use Rattle.lz_scopes.specs.Views.{within}
 use Rattle.lz_scopes.proofs.PlacesLemmas.{closable, deep, in_statement, in_block, in_for, statement_behind, block_behind, for_behind}
 use Rattle.lz_resolve.specs.ScopedPrograms.{scope_statement}
-use Rattle.lz_resolve.proofs.StatementsLemmas.{statements_more, statements_all}
+use Rattle.lz_resolve.proofs.StatementsLemmas.{statements_more, statements_all, made_block}
 use Rattle.lz_resolve.proofs.statements.+resolve.Goals as goal
 
 pub resolve_within-end-requires-clause-mark : goal.resolve_within-end-requires-clause-mark
@@ -39,6 +39,38 @@ pub resolve_block-returns-clause-place : goal.resolve_block-returns-clause-place
 resolve_block-returns-clause-place t c =
     c.end.ensures
     ∙ block_behind c.args.place.now _ c.resolve_parts.new.place _ (statements_of (map statement c.args.parts.now)) c.in_ok-mark.ensures.place c.in_ok-scoped.ensures.place c.in_ok-mark.ensures.mark
+
+pub resolve_stmt-end-requires-clause-mark : goal.resolve_stmt-end-requires-clause-mark
+resolve_stmt-end-requires-clause-mark t c =
+    closable c.args.place.now c.resolve_within-in-For.new.place _
+    (in_for c.args.place.now _ c.resolve_stmt.new.place c.resolve_within-in-For.new.place (after (within true c.resolve_stmt.new.place) (statement c.deref-in-For-2.result.now)) _
+    c.in_ok-mark-in-For.ensures.place c.in_ok-head-in-For.ensures.place c.in_ok-inner-in-For.ensures.place)
+    c.in_ok-mark-in-For.ensures.mark
+
+pub resolve_stmt-end-requires-clause-depth : goal.resolve_stmt-end-requires-clause-depth
+resolve_stmt-end-requires-clause-depth t c =
+    deep c.args.place.now c.resolve_within-in-For.new.place
+    (in_for c.args.place.now _ c.resolve_stmt.new.place c.resolve_within-in-For.new.place (after (within true c.resolve_stmt.new.place) (statement c.deref-in-For-2.result.now)) _
+    c.in_ok-mark-in-For.ensures.place c.in_ok-head-in-For.ensures.place c.in_ok-inner-in-For.ensures.place)
+
+pub resolve_stmt-returns-in_ok-scoped-in-For-clause-place : goal.resolve_stmt-returns-in_ok-scoped-in-For-clause-place
+unfolding after
+resolve_stmt-returns-in_ok-scoped-in-For-clause-place t c =
+    rw c.in-For.is
+    (c.end.ensures
+    ∙ for_behind c.args.place.now _ c.resolve_stmt.new.place c.resolve_within-in-For.new.place _ (statement c.in-For.first.value) (statement c.in-For.body.value)
+    c.in_ok-mark-in-For.ensures.place (rw c.deref-in-For.ensures at c.in_ok-head-in-For.ensures.place)
+    (rw c.deref-in-For-2.ensures at c.in_ok-inner-in-For.ensures.place) c.in_ok-mark-in-For.ensures.mark)
+
+pub resolve_stmt-returns-in_ok-parts-in-Block-clause-place : goal.resolve_stmt-returns-in_ok-parts-in-Block-clause-place
+unfolding after
+resolve_stmt-returns-in_ok-parts-in-Block-clause-place t c =
+    rw (is_block c.args.s.now c.in-Block.parts c.in-Block.is) (rw c.deref.ensures.value at c.in_ok-parts-in-Block.ensures.place)
+
+pub resolve_stmt-returns-in_ok-parts-in-Block-clause-tree : goal.resolve_stmt-returns-in_ok-parts-in-Block-clause-tree
+resolve_stmt-returns-in_ok-parts-in-Block-clause-tree t c =
+    made_block c.args.file.now c.args.place.now (statement c.args.s.now) _ _ _ (is_block c.args.s.now c.in-Block.parts c.in-Block.is)
+    (rw c.deref.ensures.value at c.in_ok-parts-in-Block.ensures.tree) c.block_of.ensures
 
 pub resolve_parts-loop-s-preserved : goal.resolve_parts-loop-s-preserved
 resolve_parts-loop-s-preserved t c =
