@@ -1,6 +1,6 @@
 -- What a function keeps of the place around it, and the place behind it; and external declarations in their order.
-use Rattle.std.proofs.Common.{◌≡◌, ℕ, ◌+◌, ◌-◌, ◌<◌, ◌≤◌, Bool, ◌&&◌, List, [], ◌∷◌, ◌++◌, length, map, drop, take, get_or, Option, Some, None, refl, sym, ap, ◌∙◌, arith, append_assoc, append-nil, drop_of_length-le}
-use Rattle.std.proofs.lemmas.List.{map-append, length-append}
+use Rattle.std.proofs.Common.{◌≡◌, ℕ, ◌+◌, ◌-◌, ◌<◌, ◌≤◌, Bool, false, ◌&&◌, List, [], ◌∷◌, ◌++◌, length, map, drop, take, get_or, Option, Some, None, refl, sym, ap, ◌∙◌, arith, append_assoc, append-nil, drop_of_length-le}
+use Rattle.std.proofs.lemmas.List.{length-append, get_or_default}
 use Rattle.lz_base.specs.declared.word.IntType.{IntType}
 use Rattle.lz_tree.specs.declared.expression.TypeName.{TypeName}
 use Rattle.lz_tree.specs.declared.program.External.{External}
@@ -9,11 +9,12 @@ use Rattle.lz_tree.specs.declared.scoped.ScopedFunction.{ScopedFunction}
 use Rattle.lz_tree.specs.declared.statement.Declarator.{Declarator}
 use Rattle.lz_tree.specs.Trees.{InitDeclarator, Statement, empty, eval, block, declare, when, while, do_while, for, break, continue, return, label, ExternalDeclaration, init_declarator, external_declaration}
 use Rattle.lz_tree.specs.ScopedTrees.{ScopedStatement, ScopedDefinition, scoped_definition}
+use Rattle.lz_scopes.specs.declared.entering.Outer.{Outer}
 use Rattle.lz_scopes.specs.declared.names.Entry.{Entry}
 use Rattle.lz_scopes.specs.declared.place.Place.{Place}
 use Rattle.lz_scopes.specs.Files.{File}
 use Rattle.lz_scopes.specs.ValueTypes.{value_type, kind_of, is_pointer}
-use Rattle.lz_scopes.specs.Views.{ended}
+use Rattle.lz_scopes.specs.Views.{outer_of, left_function}
 use Rattle.lz_scopes.specs.Scopes.{bases, is_one_pointer, object_from, after, after_all, after_body, with_function, into, into_body, with_param, with_params, with_declarator, with_declarators, past, after_external}
 use Rattle.lz_scopes.proofs.ArgumentsLemmas.{drop_item}
 use Rattle.lz_scopes.proofs.PlacesLemmas.{Kept, kept, kept_all}
@@ -74,13 +75,14 @@ in_kept p name q r k h = record {
 }
 
 -- the place at the end of its body
-pub in_body : (p p1 p2 : Place) (gives : TypeName) (name : ℕ) (params : List Param) (body : Statement) → p1 ≡ into_body p gives name params → p2 ≡ after_body p1 body → InFunction p name p2
-in_body p p1 p2 gives name params body e1 e2 =
-    rw (e2, e1) (in_kept p name (into_body p gives name params) (after_body (into_body p gives name params) body) (in_params p name (into (with_function p name) gives) (in_into p gives name) params)
+pub in_body : (p p1 p2 p3 : Place) (gives : TypeName) (name : ℕ) (params : List Param) (body : Statement) → p1 ≡ into (with_function p name) gives → p2 ≡ with_params p1 params
+    → p3 ≡ after_body p2 body → InFunction p name p3
+in_body p p1 p2 p3 gives name params body e1 e2 e3 =
+    rw (e3, e2, e1) (in_kept p name (into_body p gives name params) (after_body (into_body p gives name params) body) (in_params p name (into (with_function p name) gives) (in_into p gives name) params)
     (kept_body (into_body p gives name params) body))
 
-pub body_closable : (p q : Place) (name mark : ℕ) → InFunction p name q → mark ≡ length p.names → mark ≤ length q.names
-body_closable p q name mark k is = let n = length-append p.names k.more in rw k.names (omega arith)
+pub body_closable : (p q : Place) (name : ℕ) (outer : Outer) → InFunction p name q → outer ≡ outer_of p → outer.mark ≤ length q.names
+body_closable p q name outer k is = let n = length-append p.names k.more in rw (is, k.names) (omega arith)
 
 pub body_deep : (p q : Place) (name : ℕ) → InFunction p name q → 0 < q.depth
 body_deep p q name k = let d = k.depth in omega arith
@@ -90,32 +92,34 @@ take_front [] ys = refl
 take_front (x ∷ xs) ys = ap (λ (l : List _). x ∷ l) (take_front xs ys)
 
 -- the place behind it
-pub past_body : (p q e : Place) (name mark function : ℕ) → InFunction p name q → mark ≡ length p.names → e ≡ ended mark p.in_loop q → function ≡ p.function + 1
-    → record e { gives = p.gives; function = function } ≡ past p name q
-past_body p q e name mark function k is ends next =
+pub past_body : (p q : Place) (name : ℕ) (outer : Outer) → InFunction p name q → outer ≡ outer_of p → left_function outer q ≡ past p name q
+past_body p q name outer k is =
     let depth : q.depth - 1 ≡ p.depth = (let d = k.depth in omega arith) in
-    rw (ends, is, k.names, take_front p.names k.more, k.functions, next, depth) refl
+    rw (is, k.names, take_front p.names k.more, k.functions, k.function, depth) refl
 
 -- a function is made of what its parts are
-pub made_function : (file : File) (p p1 p2 : Place) (gives : TypeName) (name : ℕ) (params : List Param) (body : Statement) (start : Bool) (kinds : List IntType) (of : Option IntType) (t : ScopedStatement)
-    → p1 ≡ into_body p gives name params → p2 ≡ after_body p1 body → start ≡ (is_pointer (value_type gives) && is_one_pointer (bases params)) → kinds ≡ param_kinds params
-    → of ≡ value_kind (value_type gives) → t ≡ scope_body file p1 body
-    → (let made : ScopedDefinition = record { start = start; locals = p2.counts.locals; params = kinds; gives = of; body = t } in made) ≡ scope_function file p gives name params body
-made_function file p p1 p2 gives name params body start kinds of t e1 e2 starts is gave tree = rw (starts, is, gave, tree, e2, e1) refl
+pub made_function : (file : File) (p p1 p2 p3 : Place) (gives : TypeName) (name : ℕ) (params : List Param) (body : Statement) (start : Bool) (kinds : List IntType) (of : Option IntType) (t : ScopedStatement)
+    → p1 ≡ into (with_function p name) gives → p2 ≡ with_params p1 params → p3 ≡ after_body p2 body → start ≡ (is_pointer (value_type gives) && is_one_pointer (bases params))
+    → kinds ≡ param_kinds params → of ≡ value_kind (value_type gives) → t ≡ scope_body file p2 body
+    → (let made : ScopedDefinition = record { start = start; locals = p3.counts.locals; params = kinds; gives = of; body = t } in made) ≡ scope_function file p gives name params body
+made_function file p p1 p2 p3 gives name params body start kinds of t e1 e2 e3 starts is gave tree = rw (starts, is, gave, tree, e3, e2, e1) refl
 
 -- ---- parameters
 
-pub params_more : (start now now' : Place) (all ps : List Param) (i : ℕ) (x : Param) → with_params start all ≡ with_params now (drop i ps) → i < length ps → x ≡ get_or ps i x
-    → now' ≡ with_param now x.base x.name → with_params start all ≡ with_params now' (drop (i + 1) ps)
-params_more start now now' all ps i x so_far below is one = so_far ∙ rw (drop_item ps i x below is, one) refl
+read_item : (ps : List Param) (i : ℕ) (d : Param) → i < length ps → drop i ps ≡ get_or ps i d ∷ drop (i + 1) ps
+read_item ps i d below = drop_item ps i (get_or ps i d) below (get_or_default ps i d (get_or ps i d) below)
+
+pub params_more : (start now now' : Place) (all ps : List Param) (i : ℕ) (d : Param) → with_params start all ≡ with_params now (drop i ps) → i < length ps
+    → now' ≡ with_param now (get_or ps i d).base (get_or ps i d).name → with_params start all ≡ with_params now' (drop (i + 1) ps)
+params_more start now now' all ps i d so_far below one = so_far ∙ rw (read_item ps i d below, one) refl
 
 pub params_all : (start now : Place) (all ps : List Param) (i : ℕ) → with_params start all ≡ with_params now (drop i ps) → length ps ≤ i → now ≡ with_params start all
 params_all start now all ps i so_far over = sym (so_far ∙ rw (drop_of_length-le ps over) refl)
 
-pub kinds_more : (all : List IntType) (done done' : List IntType) (ps : List Param) (i : ℕ) (x : Param) → all ≡ done ++ param_kinds (drop i ps) → i < length ps → x ≡ get_or ps i x
-    → done' ≡ done ++ kind_of (value_type x.base) ∷ [] → all ≡ done' ++ param_kinds (drop (i + 1) ps)
-kinds_more all done done' ps i x so_far below is one =
-    so_far ∙ rw (drop_item ps i x below is, one) (sym (append_assoc done (kind_of (value_type x.base) ∷ []) (param_kinds (drop (i + 1) ps))))
+pub kinds_more : (all : List IntType) (done done' : List IntType) (ps : List Param) (i : ℕ) (d : Param) → all ≡ done ++ param_kinds (drop i ps) → i < length ps
+    → done' ≡ done ++ kind_of (value_type (get_or ps i d).base) ∷ [] → all ≡ done' ++ param_kinds (drop (i + 1) ps)
+kinds_more all done done' ps i d so_far below one =
+    so_far ∙ rw (read_item ps i d below, one) (sym (append_assoc done (kind_of (value_type (get_or ps i d).base) ∷ []) (param_kinds (drop (i + 1) ps))))
 
 pub kinds_all : (all done : List IntType) (ps : List Param) (i : ℕ) → all ≡ done ++ param_kinds (drop i ps) → length ps ≤ i → done ≡ all
 kinds_all all done ps i so_far over = sym (so_far ∙ rw (drop_of_length-le ps over) (append-nil done))

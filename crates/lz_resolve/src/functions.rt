@@ -1,4 +1,4 @@
-ghost use Rattle.std.specs.Prelude.{◌≡◌, ◌++◌, ◌+◌, ◌&&◌, length, map, OnOk, IfOk};
+ghost use Rattle.std.specs.Prelude.{◌≡◌, ◌++◌, ◌&&◌, map, OnOk, IfOk};
 ghost use Rattle.lz_tree.specs.Trees.{statement, init_declarator, declaration, external_declaration};
 ghost use Rattle.lz_tree.specs.ScopedTrees.{scoped_statement, scoped_definition};
 ghost use Rattle.lz_scopes.specs.Scopes as scopes;
@@ -8,7 +8,9 @@ ghost use Rattle.lz_resolve.specs.ScopedPrograms as spec;
 use crate::expressions::value_kind;
 use crate::statements::{block_of, resolve_parts, resolve_stmt};
 use lz_base::{Memory, Sequence};
-use lz_scopes::{Place, WholeFile, begin, declare, declare_one, end, value_type};
+use lz_scopes::{
+    Place, WholeFile, declare_one, declare_param, enter, leave_function, value_type,
+};
 use lz_tree::{
     Declarator, External, Kinds, Objects, Param, ScopedFunction, ScopedFunctions, ScopedStmt, Stmt,
     TypeName,
@@ -36,16 +38,6 @@ fn param_kinds(alloc: Global, params: &[Param]) -> Result<Kinds, Memory>
     Ok(kinds)
 }
 
-/// Declares a parameter, which is an object only where it has a name.
-fn declare_param(place: &mut Place, param: &Param) -> Result<(), Memory>
-    ensures { OnOk result (place.new ≡ scopes.with_param place.old param.now.base param.now.name) }
-{
-    match param.name {
-        None => Ok(()),
-        Some(name) => declare(place, name, value_type(param.base), false, 1),
-    }
-}
-
 /// Declares parameters in their order.
 fn declare_params(place: &mut Place, params: &[Param]) -> Result<(), Memory>
     ensures { OnOk result (place.new ≡ scopes.with_params place.old params.now) }
@@ -54,34 +46,6 @@ fn declare_params(place: &mut Place, params: &[Param]) -> Result<(), Memory>
         declare_param(place, param)?;
     }
     Ok(())
-}
-
-/// Goes into a function, up to its body. The number is for the end of its scope.
-fn enter(
-    place: &mut Place,
-    gives: TypeName,
-    name: u32,
-    params: &[Param],
-) -> Result<usize, Memory>
-    ensures mark { IfOk result (λ mark. mark ≡ length place.old.names) }
-    ensures place { OnOk result (place.new ≡ scopes.into_body place.old gives name params.now) }
-{
-    place.functions.declare(name)?;
-    let mark = begin(place, false)?;
-    place.gives = gives;
-    place.counts.locals = 0;
-    declare_params(place, params)?;
-    Ok(mark)
-}
-
-/// The number of the next function.
-pub fn next_function(function: u32) -> Result<u32, Memory>
-    ensures { IfOk result (λ n. n ≡ function + 1) }
-{
-    match function.checked_add(1) {
-        None => Err(Memory),
-        Some(next) => Ok(next),
-    }
 }
 
 /// The body of a function, whose outermost block is in one scope with the parameters.
@@ -112,7 +76,7 @@ fn resolve_body(
     }
 }
 
-/// A function with its body.
+/// A function with its body, and the place behind it.
 fn resolve_function(
     alloc: Global,
     file: &WholeFile,
@@ -125,16 +89,12 @@ fn resolve_function(
     ensures place { OnOk result (place.new ≡ scopes.past place.old name (scopes.after_body (scopes.into_body place.old gives name params.now) (statement body.now))) }
     ensures tree { IfOk result (λ f. scoped_definition f ≡ spec.scope_function file.now place.old gives name params.now (statement body.now)) }
 {
-    let in_loop = place.in_loop;
-    let outer = place.gives;
-    let function = next_function(place.function)?;
-    let mark = enter(place, gives, name, params)?;
+    let kinds = param_kinds(alloc, params)?;
+    let outer = enter(place, name, gives)?;
+    declare_params(place, params)?;
     let body = resolve_body(alloc, file, place, body)?;
     let locals = place.counts.locals;
-    end(place, mark, in_loop);
-    place.gives = outer;
-    place.function = function;
-    let kinds = param_kinds(alloc, params)?;
+    leave_function(place, outer)?;
     Ok(ScopedFunction {
         start: is_start_form(gives, params),
         locals,

@@ -5,7 +5,7 @@ use Rattle.lz_resolve.proofs.functions.param_kinds.Goals as goal
 
 pub loop-param-preserved : goal.loop-param-preserved
 loop-param-preserved c =
-    kinds_more _ c.loop-param.kinds _ c.args.params.now c.loop-param.param-index c.param-item.result c.loop-param.invariant c.loop-param-test.true c.param-item.is
+    kinds_more _ c.loop-param.kinds _ c.args.params.now c.loop-param.param-index _ c.loop-param.invariant c.loop-param-test.true
     (rw (c.kind.ensures, c.value_type.ensures) at c.in_ok-push.ensures.ok)
 
 pub returns : goal.returns
