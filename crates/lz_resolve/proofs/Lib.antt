@@ -1,3 +1,6 @@
+mod CellsLemmas
 mod DeclarationsLemmas
 mod ExpressionsLemmas
+mod FunctionsLemmas
 mod ScopedWitnesses
+mod StatementsLemmas
