@@ -479,7 +479,10 @@ def constant_of(e):
 
 def length_of(e):
     """The length that an expression gives an array; None where it gives none."""
-    if e.kind == "constant" and e.value >= WORD:
+    bare = e
+    while bare.kind == "paren":
+        bare = bare.inner
+    if bare.kind == "constant" and bare.value >= WORD:
         return None
     value = constant_of(e)
     return signed(*value) if value and 1 <= signed(*value) <= 4096 else None
@@ -2098,6 +2101,11 @@ ROWS = [
     ("rule 9 line 1", "pthread_mutex_t m = x; {main}"),
     ("rule 9 line 1", "int x = 1 || 1 / 0; {main}"),
     ("rule 8 line 1", "int x[\n4294967297u]; {main}"),
+    ("rule 8 line 1", "int x[(\n4294967297u)]; {main}"),
+    ("rule 24 line 2", "void *f(void *a) { return\n0L; } {main}"),
+    ("rule 7 line 2", "void *f(void *p) { int x; x =\n1 ? p : 1; } {main}"),
+    ("accepted", "int f(signed); int f(int a) { return a; } {main}"),
+    ("rule 24 line 2", "int f(\nshort int); int f(short a) { return a; } {main}"),
     ("rule 11 line 2", "int x =\n4294967297u; {main}"),
     ("rule 8 line 1", "int x[4097]; {main}"),
     ("accepted", "int x[4096], y['\\a'], z[-1 < 1u ? 3 : 2], u[1 << 33], v[-7 / 2 + 5]; {main}"),
@@ -2144,6 +2152,74 @@ ROWS = [
     # elements at file scope
     ("accepted", "".join(f"int a{k}[4096]; " for k in range(15)) + "pthread_mutex_t p[4096]; {main}"),
     ("rule 23 line 2", "".join(f"int a{k}[4096]; " for k in range(15)) + "pthread_mutex_t p[4096]; pthread_cond_t\nq; {main}"),
+]  # fmt: skip
+
+def tower(head):
+    """334 functions, each but the first of which calls the one before it, and one more behind them with this head."""
+    calls = "".join(f"void f{k}(void) {{ f{k - 1}(); }}\n" for k in range(1, 334))
+    return "void f0(void) { }\n" + calls + head + "{ f333(); } {main}"
+
+
+LARGE = "".join(f"int a{k}[4096]; " for k in range(16))  # as many elements as there may be
+
+# for each rule: a program that breaks it, with the line; one that comes near and does not; one that breaks it before other rules, or
+# after one that is told first, with the answer and what is shown
+RULES = [
+    (1, 2, "int main(void) {\n return y; }", "int main(void) { int y = y; return y; }",
+     "rule 1 line 2", "int x;\nint main(void) { x = y +\n z(); }", "operands go from left to right"),
+    (2, 2, "int x;\nint x; {main}", "int x; int main(void) { int x; { int x; } for (int x; ; ) int x; }",
+     "rule 2 line 2", "int x;\nint x = y; {main}", "by number before the value of a declarator"),
+    (3, 2, "int main(void) {\n g(); }", "int main(void) { g(); } void g(void) { }",
+     "rule 3 line 1", "int main(void) { g(\ny); }", "a call before its arguments"),
+    (4, 2, "void f(int a) { } int main(void) {\n f(); }", 'int main(void) { printf("%d %d", 1, 2); }',
+     "rule 4 line 1", "int main(void) { assert(\ny, 1); }", "a call before its arguments"),
+    (5, 1, "int assert; {main}", "int reach_error; int f(int reach_error) { return reach_error; } void assert(int); {main}",
+     "rule 5 line 2", "int x;\nvoid abort = x; {main}", "by number at one declarator"),
+    (6, 2, "void f(void) { } int main(void) {\n return f(); }", "void f(void) { } int main(void) { f(); (f()); for (f(); 0; (f())) ; }",
+     "rule 6 line 2", "void f(void) { } int main(void) { int x =\nf() + y; }", "operands go from left to right"),
+    (7, 2, "int a[2]; int main(void) {\n return a + 1; }", "int a[2]; int main(void) { return a[1] + (int)NULL; }",
+     "rule 7 line 1", "pthread_mutex_t m; int main(void) { return m +\ny; }", "operands go from left to right"),
+    (8, 1, "int a[0]; {main}", "int a[1], b[4096]; {main}",
+     "rule 8 line 1", "int n; int a[\nn + y]; {main}", "a declarator before its length"),
+    (9, 1, "int x; int y = x; {main}", "int x; int main(void) { int y = x; return y; }",
+     "rule 9 line 1", "int y =\nz; {main}", "a declarator before its value"),
+    (10, 1, "int x = { 1 }; {main}", "int x[2] = { 1, }; pthread_mutex_t m = PTHREAD_MUTEX_INITIALIZER; {main}",
+     "rule 10 line 1", "int x[1] = { 1,\n2147483648 }; {main}", "a declarator before its values"),
+    (11, 2, "int x =\n2147483648; {main}", "unsigned x = 4294967295u; int y = 2147483647, z = 0xffffffff; {main}",
+     "rule 11 line 1", "int main(void) { return 4294967296u +\ny; }", "operands go from left to right"),
+    (12, 2, "int main(void) {\n break; }", "int main(void) { while (1) { if (1) continue; break; } }",
+     "rule 12 line 2", "int main(void) { while (1) ;\n continue;\n return; }", "in the order of the text"),
+    (13, 2, "int main(void) {\n return; }", "void f(void) { return; } int main(void) { return 0; }",
+     "rule 13 line 1", "void f(void) { return\ny; } {main}", "a return before its value"),
+    (14, 2, "int f(int n) {\n return f(n); } {main}", "void a(void) { } void b(void) { a(); a(); } int main(void) { b(); a(); }",
+     "rule 4 line 1", "int f(int n) { return f(\ny, 1); } {main}", "by number at one call"),
+    (15, 0, "int x;", "signed main() { }",
+     "rule 1 line 2", "unsigned main(void) {\n return y; }", "the file comes last"),
+    (16, 2, "pthread_t t; int main(void) {\n pthread_create(&t, 0, main, 0); }",
+     "pthread_t t; int main(void) { pthread_create(&t, 0, f, 0); } void *f(void *a) { return a; }",
+     "rule 16 line 1", "pthread_t t; int main(void) { pthread_create(\nt, y, main, 0); }", "by number at one call, before its arguments"),
+    (17, 2, "void *f(void *a) { pthread_t\nt; return a; } {main}",
+     "void g(void) { pthread_t t; } int main(void) { g(); }",
+     "rule 17 line 1", "void *f(void *a) { pthread_join(\n1, 1); return a; } {main}", "by number at one call"),
+    (18, 2, "int f(\nvoid *a) { return 0; } {main}", "void *f(void *a); void *f(void *a) { return a; } {main}",
+     "rule 18 line 1", "void *f(int a,\nint a) { return 0; } {main}", "a function before its parameters"),
+    (19, 2, "int main(void) { pthread_mutex_t\nm; }", "pthread_mutex_t m; pthread_cond_t c[2]; {main}",
+     "rule 19 line 1", "int f(pthread_mutex_t m,\nvoid a) { } {main}", "parameters go from left to right"),
+    (20, 2, "int x; int main(void) {\n return &x; }", "pthread_mutex_t m[2]; int main(void) { pthread_mutex_lock(&m[1]); }",
+     "rule 20 line 1", "pthread_mutex_t m; int main(void) { pthread_mutex_init(m,\ny); }", "by number at one call, before its arguments"),
+    (21, 2, "pthread_mutex_t m; int main(void) {\n pthread_mutex_init(&m, 1); }",
+     "pthread_mutex_t m; pthread_t t; int main(void) { pthread_mutex_init(&m, '\\0'); pthread_join(t, NULL); }",
+     "rule 21 line 1", "pthread_mutex_t m; int main(void) { pthread_mutex_init(&m,\ny); }", "a call before its arguments"),
+    (22, 2, "int main(void) {\n printf(1); }", 'int main(void) { printf("a"); }',
+     "rule 22 line 1", 'int main(void) { printf(\ny, "b"); }', "a call before its arguments"),
+    (23, 2, LARGE + "int\nx; {main}", LARGE + "int main(void) { int x; }",
+     "rule 9 line 2", LARGE + "int\nx = y; {main}", "by number at one declarator"),
+    (24, 1, "long\nx; {main}", "signed int x; unsigned int y = 1u; {main}",
+     "rule 24 line 1", "char\nx,\nx; {main}", "a declaration before its declarators"),
+    (25, 2, "\nint f(int); int f(unsigned a) { return 0; } {main}", "int f(); int f(int a) { return a; } signed f(signed int); {main}",
+     "rule 25 line 1", "int f(int,\nvoid); int f(int a) { return a; } {main}", "a prototype before its parameters"),
+    (26, 335, tower("void g(int a)"), tower("").replace("{ f333(); } ", ""),
+     "rule 26 line 335", tower("void g(int a,\nint a)"), "a function before its parameters"),
 ]  # fmt: skip
 
 # constant expressions that give a length, and ones with the value 0, which is none; a wrong operator, kind or grouping turns them about
@@ -2224,9 +2300,17 @@ def two_workers():
     return f"pthread_mutex_t m = PTHREAD_MUTEX_INITIALIZER;\nunsigned int total;\n{workers}{ends}\n"
 
 
+def rows_of_rules():
+    """Three rows for each rule, each with the answer that it must have and with what it shows."""
+    for rule, line, plain, near, answer, ordered, shows in RULES:
+        yield f"rule {rule} line {line}", plain, f"rule {rule}"
+        yield "accepted", near, f"near rule {rule}"
+        yield answer, ordered, shows
+
+
 def rows():
     """Each row as bounds, the report that it must have (None where it is accepted within the limits), and its text."""
-    for answer, text in ROWS:
+    for answer, text in ROWS + [(answer, text) for answer, text, _ in rows_of_rules()]:
         report = None
         if answer != "accepted":
             rule, line = answer.split()[1::2]
