@@ -2,10 +2,11 @@
 """Times the rules, slots and cost on source files of about a mebibyte. Run it from anywhere:
 bench/front_end_rules.py PROGRAM [SHAPE..], where PROGRAM is the command lazycheck.
 
-Each shape is made in four sizes that double, and the program runs on each: the size, the bytes, the best time of five runs, the peak
-memory, the status and the first line of the report are printed, with how the time grew from the size before. The first four shapes
-are accepted and each passes the rules, the slots and the cost. The others are there so that no walk is done per call, per name or
-per scope, and no depth grows with the file. Last comes a shape of the grammar alone, to take the time of lexer and parser away."""
+Each shape is made in four sizes that double, and the program runs on each: the size, the bytes, the best time and the best time of the
+processor of five runs (the second swings less on a machine with other work), the peak memory, the status and the first line of the
+report are printed, with how the processor's time grew from the size before. The first four shapes are accepted and each passes the
+rules, the slots and the cost. The others are there so that no walk is done per function, per call, per name or per scope, and no depth
+grows with the file. Last comes a shape of the grammar alone, to take the time of lexer and parser away."""
 
 import os
 import subprocess
@@ -66,6 +67,23 @@ def circle(size):
     return "".join(rows) + "int main(void) { }\n"
 
 
+def all_called(size):
+    """Functions without calls, each of which main calls once."""
+    return "".join(f"void f{i}(void){{}}\n" for i in range(size)) + f"int main(void){{{LARGE}" + "".join(f"f{i}();" for i in range(size)) + "}\n"
+
+
+def all_call_back(size):
+    """As all_called, but each calls main."""
+    rows = [f"void f{i}(void){{main();}}\n" for i in range(size)]
+    return "".join(rows) + "int main(void){" + "".join(f"f{i}();" for i in range(size)) + "}\n"
+
+
+def fan(size):
+    """Groups of 90 functions that each call the three before them."""
+    rows = [f"void f{i}(void){{" + "".join(f"f{j}();" for j in range(max(i - 3, i - i % 90), i)) + "}\n" for i in range(size)]
+    return "".join(rows) + f"int main(void){{{LARGE}}}\n"
+
+
 def late_circle(size):
     """Groups of 90 functions that each call the three before them, and a call that comes back at the end of the file."""
     rows = [f"void f{i}(void) {{ " + "".join(f"f{j}();" for j in range(max(i - 3, i - i % 90), i)) + " }\n" for i in range(size)]
@@ -97,20 +115,21 @@ def lexed_and_parsed(size):
 SHAPES = {
     "functions": (functions, 30000), "statements": (statements, 60000), "cells": (cells, 65536), "chain": (chain, 300),
     "calls": (calls, 60000), "deep": (deep, 32000), "circle": (circle, 32000), "late_circle": (late_circle, 20000),
+    "all_called": (all_called, 30000), "all_call_back": (all_call_back, 25000), "fan": (fan, 20000),
     "locals_in_a_row": (locals_in_a_row, 55000), "hiding": (hiding, 1000), "prototypes": (prototypes, 55000),
     "lexed_and_parsed": (lexed_and_parsed, 60000),
 }  # fmt: skip
 
 
 def run(program, path):
-    """The status, the first line of the report, the seconds and the peak memory in KiB of one run."""
+    """The status, the first line of the report, the seconds, those of the processor and the peak memory in KiB of one run."""
     before = time.perf_counter()
     process = subprocess.Popen(["timeout", str(SECONDS), program, path], stdout=subprocess.PIPE)
     report = process.stdout.read()
     _, status, usage = os.wait4(process.pid, 0)
     seconds = time.perf_counter() - before
     process.stdout.close()
-    return os.waitstatus_to_exitcode(status), report.decode().split("\n")[0], seconds, usage.ru_maxrss
+    return os.waitstatus_to_exitcode(status), report.decode().split("\n")[0], seconds, usage.ru_utime + usage.ru_stime, usage.ru_maxrss
 
 
 def measure(program, name, folder):
@@ -124,17 +143,17 @@ def measure(program, name, folder):
         with open(path, "w", encoding="ascii") as file:
             file.write(text)
         runs = [run(program, path) for _ in range(RUNS)]
-        best = min(seconds for _, _, seconds, _ in runs)
-        peak = max(memory for _, _, _, memory in runs)
-        grew = f"{best / last:5.1f}" if last else "     "
-        print(f"{name:16} {size:7} {len(text):8} {1000 * best:9.1f} {grew} {peak:9} {runs[0][0]:7}  {runs[0][1]}", flush=True)
-        last = best
+        best, work = (min(run[each] for run in runs) for each in (2, 3))
+        peak = max(memory for _, _, _, _, memory in runs)
+        grew = f"{work / last:5.1f}" if last else "     "
+        print(f"{name:16} {size:7} {len(text):8} {1000 * best:9.1f} {1000 * work:9.1f} {grew} {peak:9} {runs[0][0]:7}  {runs[0][1]}", flush=True)
+        last = work
 
 
 def main():
     if len(sys.argv) < 2 or not os.access(sys.argv[1], os.X_OK):
         sys.exit("usage: bench/front_end_rules.py PROGRAM [SHAPE..]")
-    print("shape               size    bytes   best ms  grew  peak KiB  status  first line of the report")
+    print("shape               size    bytes   best ms   work ms  grew  peak KiB  status  first line of the report")
     with tempfile.TemporaryDirectory() as folder:
         for name in sys.argv[2:] or SHAPES:
             measure(sys.argv[1], name, folder)
