@@ -19,8 +19,8 @@ use Rattle.lz_cli.proofs.SourceLemmas.{OneTree, one_tree}
 empty_list : {P : Type 0} (first : Fault) (rest : List Fault) → [] ≡ first ∷ rest → P
 empty_list first rest e = absurd cc
 
-same_first : (a b : Fault) (as bs : List Fault) → a ∷ as ≡ b ∷ bs → a ≡ b
-same_first a b as bs e = cc
+same_first : (a b : Fault) (xs ys : List Fault) → a ∷ xs ≡ b ∷ ys → a ≡ b
+same_first a b xs ys e = cc
 
 same_accepted : OneTree → (bytes : List ℕ) (t u : TranslationUnit) → IsAccepted bytes t → IsAccepted bytes u → t ≡ u
 same_accepted one bytes t u a b = one_tree one bytes t u a.of b.of
@@ -48,14 +48,14 @@ pub no_slots_accepted : {P : Type 0} → OneTree → (bounds : Bounds) (bytes : 
     → slots (scoped_of tree) bounds.unwind ≤ slot_limit → HasManySlots bounds bytes told → P
 no_slots_accepted one bounds bytes tree told a few m =
     let over : slot_limit < slots (scoped_of tree) bounds.unwind =
-        subst (λ (t : TranslationUnit). slot_limit < slots (scoped_of t) bounds.unwind) (same_accepted one bytes m.tree tree m.accepted a) m.over in
+    subst (λ (t : TranslationUnit). slot_limit < slots (scoped_of t) bounds.unwind) (same_accepted one bytes m.tree tree m.accepted a) m.over in
     absurd (omega (arith, few, over))
 
 pub no_cost_accepted : {P : Type 0} → OneTree → (bounds : Bounds) (bytes : List ℕ) (tree : TranslationUnit) (told : ℕ) → IsAccepted bytes tree
     → cost (scoped_of tree) bounds.unwind bounds.rounds ≤ cost_limit → HasHighCost bounds bytes told → P
 no_cost_accepted one bounds bytes tree told a low h =
     let over : cost_limit < cost (scoped_of tree) bounds.unwind bounds.rounds =
-        subst (λ (t : TranslationUnit). cost_limit < cost (scoped_of t) bounds.unwind bounds.rounds) (same_accepted one bytes h.tree tree h.accepted a) h.over in
+    subst (λ (t : TranslationUnit). cost_limit < cost (scoped_of t) bounds.unwind bounds.rounds) (same_accepted one bytes h.tree tree h.accepted a) h.over in
     absurd (omega (arith, low, over))
 
 pub one_slots : OneTree → (bounds : Bounds) (bytes : List ℕ) (n m : ℕ) → HasManySlots bounds bytes n → HasManySlots bounds bytes m → ManySlots n ≡ ManySlots m

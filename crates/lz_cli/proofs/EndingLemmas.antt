@@ -83,3 +83,6 @@ pub admitted : {bytes : List ℕ} {tree : TranslationUnit} {sites price : ℕ} �
     → price ≡ saturated (cost (scoped_of tree) 2 2) → price ≤ cost_limit → IsAdmitted defaults bytes
 admitted {bytes} {tree} accepted sites_are few price_is low =
     record { tree = tree; accepted = accepted; few_slots = omega (arith, sites_are, few); low_cost = omega (arith, price_is, low) }
+
+pub is_accepted : {bytes : List ℕ} {tree : TranslationUnit} → HasTree bytes tree → AreFaults tree [] → IsAccepted bytes tree
+is_accepted {bytes} {tree} of faultless = record { of = of; faultless = faultless }
