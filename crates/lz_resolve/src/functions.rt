@@ -8,9 +8,7 @@ ghost use Rattle.lz_resolve.specs.ScopedPrograms as spec;
 use crate::expressions::value_kind;
 use crate::statements::{block_of, resolve_parts, resolve_stmt};
 use lz_base::{Memory, Sequence};
-use lz_scopes::{
-    Place, WholeFile, declare_one, declare_param, enter, leave_function, value_type,
-};
+use lz_scopes::{Place, WholeFile, declare_one, declare_param, enter, leave_function, value_type};
 use lz_tree::{
     Declarator, External, Kinds, Objects, Param, ScopedFunction, ScopedFunctions, ScopedStmt, Stmt,
     TypeName,
@@ -149,8 +147,15 @@ fn resolve_external(
             body,
             ..
         } => {
-            let function =
-                resolve_function(alloc, file, place, *gives, *name, params.items(), body)?;
+            let function = resolve_function(
+                alloc,
+                file,
+                place,
+                *gives,
+                *name,
+                params.items(),
+                body,
+            )?;
             functions.push(function)?;
             Ok(())
         }
