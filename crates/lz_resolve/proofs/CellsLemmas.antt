@@ -1,5 +1,5 @@
 -- First words of cells, added from left to right.
-use Rattle.std.proofs.Common.{◌≡◌, ℕ, ◌+◌, ◌-◌, ◌<◌, ◌≤◌, suc, List, [], ◌∷◌, ◌++◌, length, map, drop, get_or, replicate, refl, sym, ap, ◌∙◌, arith, append_assoc, append-nil, drop_of_length-le}
+use Rattle.std.proofs.Common.{◌≡◌, ℕ, ◌+◌, ◌-◌, ◌<◌, ◌≤◌, suc, List, [], ◌∷◌, ◌++◌, length, map, drop, get_or, replicate, refl, sym, ap, ◌∙◌, append_assoc, append-nil, drop_of_length-le}
 use Rattle.std.proofs.lemmas.List.{replicate-append-replicate}
 use Rattle.lz_tree.specs.declared.expression.Expr.{Expr}
 use Rattle.lz_tree.specs.declared.program.External.{External}

@@ -47,7 +47,3 @@ unfolding scope_declarators
 declarators_all file base start now all ds i done made over =
     let none : left_from ds i ≡ [] = ap (λ (l : List Declarator). map init_declarator l) (drop_of_length-le ds over) in
     (sym (made.place ∙ rw none refl), sym (made.trees ∙ rw none (append-nil (map scoped_declarator done))))
-
--- the first of them
-pub declarators_none : (file : File) (base : TypeName) (start : Place) (all : List InitDeclarator) (done : List ScopedDeclarator) → done ≡ [] → MadeDeclarators file base start start all all done
-declarators_none file base start all done is = record { place = refl; trees = rw is refl }

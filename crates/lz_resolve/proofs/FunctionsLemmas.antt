@@ -15,7 +15,7 @@ use Rattle.lz_scopes.specs.declared.place.Place.{Place}
 use Rattle.lz_scopes.specs.Files.{File}
 use Rattle.lz_scopes.specs.ValueTypes.{value_type, kind_of, is_pointer}
 use Rattle.lz_scopes.specs.Views.{outer_of, left_function}
-use Rattle.lz_scopes.specs.Scopes.{bases, is_one_pointer, object_from, after, after_all, after_body, with_function, into, into_body, with_param, with_params, with_declarator, with_declarators, past, after_external}
+use Rattle.lz_scopes.specs.Scopes.{bases, is_one_pointer, object_from, after_body, with_function, into, into_body, with_param, with_params, with_declarator, with_declarators, past, after_external}
 use Rattle.lz_scopes.proofs.ArgumentsLemmas.{drop_item}
 use Rattle.lz_scopes.proofs.PlacesLemmas.{Kept, kept, kept_all}
 use Rattle.lz_resolve.specs.ScopedPrograms.{value_kind, param_kinds, scope_body, scope_function, scope_external, scope_externals, after_externals}

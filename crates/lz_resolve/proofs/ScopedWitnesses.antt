@@ -1,5 +1,5 @@
 -- A program and its scoped one; and a program without a fault, with what is known of its functions.
-use Rattle.std.proofs.Common.{◌≡◌, ℕ, zero, suc, List, [], ◌∷◌, map, codes, Bool, true, false, ◌==◌, Option, Some, None, refl}
+use Rattle.std.proofs.Common.{◌≡◌, ℕ, List, [], ◌∷◌, codes, Bool, true, false, Option, Some, None, refl}
 use Rattle.lz_base.specs.declared.word.IntType.{IntType}
 use Rattle.lz_base.specs.declared.word.IntType.TheVariants as kinds
 use Rattle.lz_base.specs.declared.operator.Unary.TheVariants as uops
@@ -11,7 +11,7 @@ use Rattle.lz_tree.specs.declared.program.Param.{Param}
 use Rattle.lz_tree.specs.declared.scoped.KnownName.TheVariants.{MutexLock, MutexUnlock, Create}
 use Rattle.lz_tree.specs.declared.scoped.Object.{Object}
 use Rattle.lz_tree.specs.declared.scoped.Object.TheVariants.{Local, Cell, Mutex, Handle, Routine, Known}
-use Rattle.lz_tree.specs.Trees.{Expression, constant, null, object, address, unary, binary, assign, step, call, whole, element, none, and, Initializer, nothing, single, listed, InitDeclarator, Declaration, Statement, eval, block, declare, for, return, nil, cons, ExternalDeclaration, objects, function, TranslationUnit}
+use Rattle.lz_tree.specs.Trees.{Expression, constant, null, object, address, unary, binary, assign, step, call, whole, element, none, and, Initializer, nothing, single, listed, InitDeclarator, Declaration, eval, block, declare, for, return, nil, cons, objects, function, TranslationUnit}
 use Rattle.lz_tree.specs.ScopedTrees as scoped
 use Rattle.lz_tree.specs.ScopedTrees.{ScopedExpression, ScopedIndex, ScopedInitDeclarator, ScopedInitializer, ScopedDeclaration, ScopedStatement, ScopedProgram, ScopedDefinition, Lvalue, lvalue}
 use Rattle.lz_scopes.specs.ValueTypes.{are_one_type}

@@ -1,6 +1,6 @@
 -- Trusted: the program in which each name but a label's is replaced by what it means, with the kind of each
 -- expression, the numbers of all objects and the first words of the cells (C99 6.2.1, 6.7.8 and 6.9).
-use Rattle.std.specs.Prelude.{◌≡◌, ℕ, zero, suc, ◌+◌, ◌-◌, ◌==◌, Bool, true, false, not, ◌&&◌, ◌||◌, List, [], ◌∷◌, ◌++◌, map, length, replicate, codes, bytes_eq, get_or, Option, Some, None, option_map, if◌then◌else◌, slice_get}
+use Rattle.std.specs.Prelude.{ℕ, ◌-◌, false, List, [], ◌∷◌, ◌++◌, map, length, replicate, Option, Some, None, option_map, if◌then◌else◌}
 use Rattle.lz_base.specs.declared.word.IntType.{IntType}
 use Rattle.lz_base.specs.declared.word.IntType.TheVariants as kinds
 use Rattle.lz_tree.specs.declared.expression.TypeName.{TypeName}
@@ -14,14 +14,12 @@ use Rattle.lz_tree.specs.ScopedTrees.{ScopedExpression, ScopedExpressions, Scope
 use Rattle.lz_scopes.specs.declared.constant.Word.{Word}
 use Rattle.lz_scopes.specs.declared.names.Entry.{Entry}
 use Rattle.lz_scopes.specs.declared.value_types.ValueType.{ValueType}
-use Rattle.lz_scopes.specs.declared.value_types.ValueType.TheVariants.{Integer, Pointer, Nothing, Thread, Mutex, Cond, Function}
+use Rattle.lz_scopes.specs.declared.value_types.ValueType.TheVariants.{Integer, Pointer}
 use Rattle.lz_scopes.specs.ValueTypes.{value_type, kind_of, is_integer}
 use Rattle.lz_scopes.specs.Constants.{elements, constant_value, word}
-use Rattle.lz_scopes.specs.KnownNames.{known}
 use Rattle.lz_scopes.specs.declared.place.Place.{Place}
 use Rattle.lz_scopes.specs.Names.{nearest}
-use Rattle.lz_scopes.specs.declared.signature.Signature.{Signature}
-use Rattle.lz_scopes.specs.Scopes.{signatures, is_start_form, inside, inside_loop, behind, after, after_branch, after_all, after_body, with_declarator, with_declaration, into_body, opening, after_external, object_from}
+use Rattle.lz_scopes.specs.Scopes.{signatures, is_start_form, inside, inside_loop, behind, after, after_body, with_declarator, into_body, opening, after_external, object_from}
 use Rattle.lz_scopes.specs.Files.{File, main_from, bare}
 use Rattle.lz_scopes.specs.ExpressionTypes.{callee, type_of}
 

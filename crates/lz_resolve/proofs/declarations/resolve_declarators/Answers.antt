@@ -1,6 +1,6 @@
 use Rattle.std.proofs.Common.{map}
 use Rattle.lz_tree.specs.Trees.{init_declarator}
-use Rattle.lz_resolve.proofs.DeclarationsLemmas.{declarators_more, declarators_all, declarators_none}
+use Rattle.lz_resolve.proofs.DeclarationsLemmas.{declarators_more, declarators_all}
 use Rattle.lz_resolve.proofs.declarations.resolve_declarators.Goals as goal
 
 pub loop-d-preserved : goal.loop-d-preserved

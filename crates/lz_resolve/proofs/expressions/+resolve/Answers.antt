@@ -1,4 +1,4 @@
-use Rattle.std.proofs.Common.{◌≡◌, map}
+use Rattle.std.proofs.Common.{map}
 use Rattle.lz_tree.specs.Trees.{expression, expressions_of}
 use Rattle.lz_tree.specs.ScopedTrees.{scoped_expression}
 use Rattle.lz_tree.proofs.TreesLemmas.{is_call}

@@ -1,5 +1,3 @@
-use Rattle.std.proofs.Common.{◌≡◌, ◌∷◌, ◌++◌, [], ◌∙◌}
-use Rattle.lz_scopes.specs.ValueTypes.{kind_of, value_type}
 use Rattle.lz_resolve.proofs.FunctionsLemmas.{kinds_more, kinds_all}
 use Rattle.lz_resolve.proofs.functions.param_kinds.Goals as goal
 

@@ -4,7 +4,6 @@ use Rattle.lz_tree.proofs.TreesLemmas.{is_block}
 use Rattle.lz_scopes.specs.Scopes.{after}
 use Rattle.lz_scopes.specs.Views.{within}
 use Rattle.lz_scopes.proofs.PlacesLemmas.{closable, deep, in_statement, in_block, in_for, statement_behind, block_behind, for_behind}
-use Rattle.lz_resolve.specs.ScopedPrograms.{scope_statement}
 use Rattle.lz_resolve.proofs.StatementsLemmas.{statements_more, statements_all, made_block}
 use Rattle.lz_resolve.proofs.statements.+resolve.Goals as goal
 
