@@ -5,3 +5,4 @@ pub mod Ranks
 pub mod Resumed
 pub mod Seen
 pub mod Stages
+pub mod Turning

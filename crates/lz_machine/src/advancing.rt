@@ -1,9 +1,13 @@
-ghost use Rattle.std.specs.Prelude.{◌≡◌, IfOk};
-ghost use Rattle.lz_tree.specs.ScopedTrees.{scoped_expression};
+ghost use Rattle.std.specs.Prelude.{◌≡◌, IfOk, map};
+ghost use Rattle.lz_tree.specs.ScopedTrees.{scoped_expression, scoped_target, scoped_expressions_of};
 ghost use Rattle.lz_machine.specs.Stages.{stage_of, point_of, came_of, move_of, locals_of, inside, value_if_done};
 ghost use Rattle.lz_machine.specs.Stages as stages;
-ghost use Rattle.lz_machine.specs.Moves.{turn_of, left_by};
-ghost use Rattle.lz_machine.specs.Fits.{IsFit};
+ghost use Rattle.lz_machine.specs.Moves as spec;
+ghost use Rattle.lz_machine.specs.Moves.{turn_of, left_by, slot_of, part_of};
+ghost use Rattle.lz_machine.specs.Fits.{IsFit, AreFit, IsFitPlace};
+ghost use Rattle.lz_machine.specs.Resumed.{Comes, PartComes, Turns};
+ghost use Rattle.lz_machine.specs.Ranks.{GoesDown, rank, count};
+ghost use Rattle.lz_machine.specs.Turning.{turned_of, argument_slot_of};
 
 use crate::calls::{
     argued_move, arguing_move, argument_move, arguments, called, calling_move, handed_move,
@@ -15,7 +19,7 @@ use crate::nodes::{
 };
 use crate::stage::{Came, Locals, Move, Place, Stage};
 use lz_base::Memory;
-use lz_tree::ScopedExpr;
+use lz_tree::{ScopedExpr, ScopedTarget};
 use std::alloc::Global;
 
 /// A node that is done with this value.
@@ -28,7 +32,7 @@ fn done(value: u32) -> Move
 }
 
 /// A step of a node at a stage, with this value.
-pub fn moved(
+fn moved(
     alloc: Global,
     e: &ScopedExpr,
     stage: Stage,
@@ -50,10 +54,7 @@ pub fn moved(
             Ok(old_move(e, element, value))
         }
         Stage::Valued { at } => Ok(valued_move(e, at, value)),
-        Stage::Writing {
-            element,
-            value: own,
-        } => {
+        Stage::Writing { element, value: own } => {
             writing_writes(e, element, own, locals)?;
             Ok(writing_move(e, element, own))
         }
@@ -64,24 +65,14 @@ pub fn moved(
         Stage::Other => Ok(branch_move(false, e, value)),
         Stage::Calling { values } => calling_move(alloc, called(e), arguments(e), values),
         Stage::Argument { values } => argument_move(called(e), values, value),
-        Stage::Passing { objects, at } => Ok(passing_move(
-            alloc,
-            called(e),
-            arguments(e),
-            objects,
-            at,
-        )),
+        Stage::Passing { objects, at } => Ok(passing_move(alloc, called(e), arguments(e), objects, at)),
         Stage::Handed { objects, at } => handed_move(called(e), arguments(e), objects, at, value),
-        Stage::Arguing {
-            objects,
-            values,
-            at,
-        } => { Ok(arguing_move(called(e), arguments(e), objects, values, at, locals)) }
-        Stage::Argued {
-            objects,
-            values,
-            at,
-        } => { argued_move(called(e), arguments(e), objects, values, at, value) }
+        Stage::Arguing { objects, values, at } => {
+            Ok(arguing_move(called(e), arguments(e), objects, values, at, locals))
+        }
+        Stage::Argued { objects, values, at } => {
+            argued_move(called(e), arguments(e), objects, values, at, value)
+        }
         Stage::Woken { cond, mutex } => Ok(woken_move(called(e), cond, mutex)),
         Stage::Made { handle } => {
             made_writes(called(e), handle, value, locals)?;
@@ -91,7 +82,7 @@ pub fn moved(
 }
 
 /// The value of what is done.
-pub fn done_value(came: &Came) -> Option<u32>
+fn done_value(came: &Came) -> Option<u32>
     ensures { result ≡ value_if_done (came_of came.now) }
 {
     match came {
@@ -118,22 +109,14 @@ fn within(alloc: Global, stage: Stage, inner: Place) -> Result<Place, Memory>
 }
 
 /// What came so far in a part, behind which its node is at this stage.
-pub fn came_within(alloc: Global, stage: Stage, came: Came) -> Result<Came, Memory>
+fn came_within(alloc: Global, stage: Stage, came: Came) -> Result<Came, Memory>
     ensures { IfOk result (λ whole. came_of whole ≡ inside (stage_of stage) (came_of came)) }
 {
     match came {
         Came::Done { value } => Ok(Came::Done { value }),
-        Came::Acts {
-            action,
-            line,
-            place,
-        } => {
+        Came::Acts { action, line, place } => {
             let place = within(alloc, stage, place)?;
-            Ok(Came::Acts {
-                action,
-                line,
-                place,
-            })
+            Ok(Came::Acts { action, line, place })
         }
         Came::Reads { cell, line, place } => {
             let place = within(alloc, stage, place)?;
@@ -147,37 +130,354 @@ pub fn came_within(alloc: Global, stage: Stage, came: Came) -> Result<Came, Memo
             let place = within(alloc, stage, place)?;
             Ok(Came::Signals { cond, line, place })
         }
-        Came::Creates {
-            start,
-            value,
-            line,
-            place,
-        } => {
+        Came::Creates { start, value, line, place } => {
             let place = within(alloc, stage, place)?;
-            Ok(Came::Creates {
-                start,
-                value,
-                line,
-                place,
-            })
+            Ok(Came::Creates { start, value, line, place })
         }
-        Came::Calls {
-            function,
-            kinds,
-            values,
-            place,
-        } => {
+        Came::Calls { function, kinds, values, place } => {
             let place = within(alloc, stage, place)?;
-            Ok(Came::Calls {
-                function,
-                kinds,
-                values,
-                place,
-            })
+            Ok(Came::Calls { function, kinds, values, place })
         }
         Came::Fails { kind, line } => Ok(Came::Fails { kind, line }),
         Came::Refuses { line } => Ok(Came::Refuses { line }),
         Came::Exits => Ok(Came::Exits),
         Came::Stops => Ok(Came::Stops),
+    }
+}
+
+/// How far one turn of a node came.
+#[derive(Drop)]
+pub enum Turned {
+    /// To another stage, with this value.
+    Again { stage: Stage, value: u32 },
+    Stopped { came: Came },
+}
+
+/// Goes on in the index of a target.
+#[cycle(advance)]
+fn target_part(
+    alloc: Global,
+    target: &ScopedTarget,
+    place: Place,
+    given: u32,
+    locals: &mut Locals,
+) -> Result<Came, Memory>
+    requires { IsFitPlace (scoped_target target.now) }
+    ensures { IfOk result (λ came. PartComes (spec.target_index (scoped_target target.now)) (point_of place) given (locals_of locals.old) (came_of came) (locals_of locals.new)) }
+{
+    match &target.index {
+        None => Ok(Came::Stops),
+        Some(index) => advance(alloc, index, place, given, locals),
+    }
+}
+
+/// Goes on in the index of a node.
+#[cycle(advance)]
+fn index_part(
+    alloc: Global,
+    e: &ScopedExpr,
+    place: Place,
+    given: u32,
+    locals: &mut Locals,
+) -> Result<Came, Memory>
+    requires { IsFit (scoped_expression e.now) }
+    ensures { IfOk result (λ came. PartComes (spec.index_of (scoped_expression e.now)) (point_of place) given (locals_of locals.old) (came_of came) (locals_of locals.new)) }
+{
+    match e {
+        ScopedExpr::Object { target, .. } => target_part(alloc, target, place, given, locals),
+        ScopedExpr::Address { target, .. } => target_part(alloc, target, place, given, locals),
+        ScopedExpr::Assign { target, .. } => target_part(alloc, target, place, given, locals),
+        ScopedExpr::Step { target, .. } => target_part(alloc, target, place, given, locals),
+        ScopedExpr::Constant { .. }
+        | ScopedExpr::Null { .. }
+        | ScopedExpr::Text { .. }
+        | ScopedExpr::Paren { .. }
+        | ScopedExpr::Unary { .. }
+        | ScopedExpr::Cast { .. }
+        | ScopedExpr::Binary { .. }
+        | ScopedExpr::Choose { .. }
+        | ScopedExpr::Call { .. } => Ok(Came::Stops),
+    }
+}
+
+/// Goes on in the first operand of a node.
+#[cycle(advance)]
+fn first_part(
+    alloc: Global,
+    e: &ScopedExpr,
+    place: Place,
+    given: u32,
+    locals: &mut Locals,
+) -> Result<Came, Memory>
+    requires { IsFit (scoped_expression e.now) }
+    ensures { IfOk result (λ came. PartComes (spec.first_of_node (scoped_expression e.now)) (point_of place) given (locals_of locals.old) (came_of came) (locals_of locals.new)) }
+{
+    match e {
+        ScopedExpr::Paren { inner, .. } => advance(alloc, inner, place, given, locals),
+        ScopedExpr::Unary { of, .. } => advance(alloc, of, place, given, locals),
+        ScopedExpr::Cast { of, .. } => advance(alloc, of, place, given, locals),
+        ScopedExpr::Binary { left, .. } => advance(alloc, left, place, given, locals),
+        ScopedExpr::Choose { test, .. } => advance(alloc, test, place, given, locals),
+        ScopedExpr::Assign { value, .. } => advance(alloc, value, place, given, locals),
+        ScopedExpr::Constant { .. }
+        | ScopedExpr::Null { .. }
+        | ScopedExpr::Text { .. }
+        | ScopedExpr::Object { .. }
+        | ScopedExpr::Address { .. }
+        | ScopedExpr::Step { .. }
+        | ScopedExpr::Call { .. } => Ok(Came::Stops),
+    }
+}
+
+/// Goes on in the second operand of a node, or in the branch of a test that holds.
+#[cycle(advance)]
+fn second_part(
+    alloc: Global,
+    e: &ScopedExpr,
+    place: Place,
+    given: u32,
+    locals: &mut Locals,
+) -> Result<Came, Memory>
+    requires { IsFit (scoped_expression e.now) }
+    ensures { IfOk result (λ came. PartComes (spec.second_of_node (scoped_expression e.now)) (point_of place) given (locals_of locals.old) (came_of came) (locals_of locals.new)) }
+{
+    match e {
+        ScopedExpr::Binary { right, .. } => advance(alloc, right, place, given, locals),
+        ScopedExpr::Choose { yes, .. } => advance(alloc, yes, place, given, locals),
+        ScopedExpr::Paren { .. }
+        | ScopedExpr::Unary { .. }
+        | ScopedExpr::Cast { .. }
+        | ScopedExpr::Assign { .. }
+        | ScopedExpr::Constant { .. }
+        | ScopedExpr::Null { .. }
+        | ScopedExpr::Text { .. }
+        | ScopedExpr::Object { .. }
+        | ScopedExpr::Address { .. }
+        | ScopedExpr::Step { .. }
+        | ScopedExpr::Call { .. } => Ok(Came::Stops),
+    }
+}
+
+/// Goes on in the branch of a test that does not hold.
+#[cycle(advance)]
+fn third_part(
+    alloc: Global,
+    e: &ScopedExpr,
+    place: Place,
+    given: u32,
+    locals: &mut Locals,
+) -> Result<Came, Memory>
+    requires { IsFit (scoped_expression e.now) }
+    ensures { IfOk result (λ came. PartComes (spec.third_of_node (scoped_expression e.now)) (point_of place) given (locals_of locals.old) (came_of came) (locals_of locals.new)) }
+{
+    match e {
+        ScopedExpr::Choose { no, .. } => advance(alloc, no, place, given, locals),
+        ScopedExpr::Binary { .. }
+        | ScopedExpr::Paren { .. }
+        | ScopedExpr::Unary { .. }
+        | ScopedExpr::Cast { .. }
+        | ScopedExpr::Assign { .. }
+        | ScopedExpr::Constant { .. }
+        | ScopedExpr::Null { .. }
+        | ScopedExpr::Text { .. }
+        | ScopedExpr::Object { .. }
+        | ScopedExpr::Address { .. }
+        | ScopedExpr::Step { .. }
+        | ScopedExpr::Call { .. } => Ok(Came::Stops),
+    }
+}
+
+/// Goes on in an argument.
+#[cycle(advance)]
+fn argument_part(
+    alloc: Global,
+    args: &[ScopedExpr],
+    at: usize,
+    place: Place,
+    given: u32,
+    locals: &mut Locals,
+) -> Result<Came, Memory>
+    requires { AreFit (scoped_expressions_of (map scoped_expression args.now)) }
+    ensures { IfOk result (λ came. PartComes (spec.argument_at (scoped_expressions_of (map scoped_expression args.now)) at) (point_of place) given (locals_of locals.old) (came_of came) (locals_of locals.new)) }
+{
+    if at < args.len() {
+        advance(alloc, &args[at], place, given, locals)
+    } else {
+        Ok(Came::Stops)
+    }
+}
+
+/// Goes on in the index of an argument.
+#[cycle(advance)]
+fn handed_part(
+    alloc: Global,
+    args: &[ScopedExpr],
+    at: usize,
+    place: Place,
+    given: u32,
+    locals: &mut Locals,
+) -> Result<Came, Memory>
+    requires { AreFit (scoped_expressions_of (map scoped_expression args.now)) }
+    ensures { IfOk result (λ came. PartComes (spec.index_of_argument (spec.argument_at (scoped_expressions_of (map scoped_expression args.now)) at)) (point_of place) given (locals_of locals.old) (came_of came) (locals_of locals.new)) }
+{
+    if at < args.len() {
+        index_part(alloc, &args[at], place, given, locals)
+    } else {
+        Ok(Came::Stops)
+    }
+}
+
+/// Goes on in an argument of a call, or in its index where it is an object that is handed.
+#[cycle(advance)]
+fn call_part(
+    alloc: Global,
+    e: &ScopedExpr,
+    at: usize,
+    handed: bool,
+    place: Place,
+    given: u32,
+    locals: &mut Locals,
+) -> Result<Came, Memory>
+    requires { IsFit (scoped_expression e.now) }
+    ensures { IfOk result (λ came. PartComes (part_of (scoped_expression e.now) (argument_slot_of handed at)) (point_of place) given (locals_of locals.old) (came_of came) (locals_of locals.new)) }
+{
+    match e {
+        ScopedExpr::Call { args, .. } => {
+            if handed {
+                handed_part(alloc, args, at, place, given, locals)
+            } else {
+                argument_part(alloc, args, at, place, given, locals)
+            }
+        }
+        ScopedExpr::Choose { .. }
+        | ScopedExpr::Binary { .. }
+        | ScopedExpr::Paren { .. }
+        | ScopedExpr::Unary { .. }
+        | ScopedExpr::Cast { .. }
+        | ScopedExpr::Assign { .. }
+        | ScopedExpr::Constant { .. }
+        | ScopedExpr::Null { .. }
+        | ScopedExpr::Text { .. }
+        | ScopedExpr::Object { .. }
+        | ScopedExpr::Address { .. }
+        | ScopedExpr::Step { .. } => Ok(Came::Stops),
+    }
+}
+
+/// Goes on in the part behind which a node comes to this stage.
+#[cycle(advance)]
+fn part(
+    alloc: Global,
+    e: &ScopedExpr,
+    stage: &Stage,
+    place: Place,
+    given: u32,
+    locals: &mut Locals,
+) -> Result<Came, Memory>
+    requires { IsFit (scoped_expression e.now) }
+    ensures { IfOk result (λ came. PartComes (part_of (scoped_expression e.now) (slot_of (stage_of stage.now))) (point_of place) given (locals_of locals.old) (came_of came) (locals_of locals.new)) }
+{
+    match stage {
+        Stage::Indexed => index_part(alloc, e, place, given, locals),
+        Stage::Valued { .. } => first_part(alloc, e, place, given, locals),
+        Stage::Operand { .. } => first_part(alloc, e, place, given, locals),
+        Stage::First => first_part(alloc, e, place, given, locals),
+        Stage::Second { .. } => second_part(alloc, e, place, given, locals),
+        Stage::Taken => second_part(alloc, e, place, given, locals),
+        Stage::Other => third_part(alloc, e, place, given, locals),
+        Stage::Argument { values } => call_part(alloc, e, values.len(), false, place, given, locals),
+        Stage::Handed { at, .. } => call_part(alloc, e, *at, true, place, given, locals),
+        Stage::Argued { at, .. } => call_part(alloc, e, *at, false, place, given, locals),
+        Stage::Start
+        | Stage::Given
+        | Stage::Settled { .. }
+        | Stage::Ready { .. }
+        | Stage::Old { .. }
+        | Stage::Writing { .. }
+        | Stage::Calling { .. }
+        | Stage::Passing { .. }
+        | Stage::Arguing { .. }
+        | Stage::Woken { .. }
+        | Stage::Made { .. } => Ok(Came::Stops),
+    }
+}
+
+/// One turn of a node from a stage on, with this value.
+#[cycle(advance)]
+fn turn(
+    alloc: Global,
+    e: &ScopedExpr,
+    stage: Stage,
+    value: u32,
+    locals: &mut Locals,
+) -> Result<Turned, Memory>
+    requires { IsFit (scoped_expression e.now) }
+    ensures same { IfOk result (λ t. Turns (scoped_expression e.now) (stage_of stage) value (locals_of locals.old) (turned_of t) (locals_of locals.new)) }
+    ensures down { IfOk result (λ t. GoesDown (count (spec.arguments_of (scoped_expression e.now))) (rank (scoped_expression e.now) (stage_of stage)) (turned_of t)) }
+{
+    match moved(alloc, e, stage, value, locals)? {
+        Move::Comes { came } => Ok(Turned::Stopped { came }),
+        Move::Goes { stage, value } => Ok(Turned::Again { stage, value }),
+        Move::Enters { stage } => {
+            let came = part(alloc, e, &stage, Place::At { stage: Stage::Start }, 0, locals)?;
+            match done_value(&came) {
+                Some(value) => Ok(Turned::Again { stage, value }),
+                None => {
+                    let came = came_within(alloc, stage, came)?;
+                    Ok(Turned::Stopped { came })
+                }
+            }
+        }
+    }
+}
+
+/// Goes on from a stage, with this value, up to the next action.
+#[cycle(advance)]
+fn go_on(
+    alloc: Global,
+    e: &ScopedExpr,
+    stage: Stage,
+    value: u32,
+    locals: &mut Locals,
+) -> Result<Came, Memory>
+    requires { IsFit (scoped_expression e.now) }
+    ensures { IfOk result (λ came. Comes (scoped_expression e.now) (stages.at_stage (stage_of stage)) value (locals_of locals.old) (came_of came) (locals_of locals.new)) }
+{
+    let mut now = stage;
+    let mut held = value;
+    loop {
+        match turn(alloc, e, now, held, locals)? {
+            Turned::Again { stage: next, value: given } => {
+                now = next;
+                held = given;
+            }
+            Turned::Stopped { came } => return Ok(came),
+        }
+    }
+}
+
+/// Goes on from a place of an expression, where this value is given, up to the next action or to the end. What the
+/// expression may do from there is what it may do where it came so far, Loc left out, however deep its calls may go.
+/// The time is that of the way down to the place, and of the steps that are no actions.
+#[cycle(advance)]
+pub fn advance(
+    alloc: Global,
+    e: &ScopedExpr,
+    place: Place,
+    given: u32,
+    locals: &mut Locals,
+) -> Result<Came, Memory>
+    requires { IsFit (scoped_expression e.now) }
+    ensures { IfOk result (λ came. Comes (scoped_expression e.now) (point_of place) given (locals_of locals.old) (came_of came) (locals_of locals.new)) }
+{
+    match place {
+        Place::At { stage } => go_on(alloc, e, stage, given, locals),
+        Place::Within { stage, inner } => {
+            let came = part(alloc, e, &stage, Box::into_inner(inner), given, locals)?;
+            match done_value(&came) {
+                Some(value) => go_on(alloc, e, stage, value, locals),
+                None => came_within(alloc, stage, came),
+            }
+        }
     }
 }

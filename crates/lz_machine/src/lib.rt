@@ -10,6 +10,6 @@ mod nodes;
 mod stage;
 mod values;
 
-pub use advancing::{came_within, done_value, moved};
+pub use advancing::advance;
 pub use laws::{a_turn_of_a_node, turns_end};
 pub use stage::{Came, Locals, Move, Place, Stage};
