@@ -4,5 +4,6 @@ pub mod Moves
 pub mod Ranks
 pub mod Resumed
 pub mod Seen
+pub mod Sizes
 pub mod Stages
 pub mod Turning

@@ -1,13 +1,13 @@
-ghost use Rattle.std.specs.Prelude.{◌≡◌, IfOk, map};
-ghost use Rattle.lz_tree.specs.ScopedTrees.{scoped_expression, scoped_target, scoped_expressions_of};
+ghost use Rattle.std.specs.Prelude.{◌≡◌, IfOk};
+ghost use Rattle.lz_tree.specs.ScopedTrees.{scoped_expression};
 ghost use Rattle.lz_machine.specs.Stages.{stage_of, point_of, came_of, move_of, locals_of, inside, value_if_done};
 ghost use Rattle.lz_machine.specs.Stages as stages;
 ghost use Rattle.lz_machine.specs.Moves as spec;
 ghost use Rattle.lz_machine.specs.Moves.{turn_of, left_by, slot_of, part_of};
-ghost use Rattle.lz_machine.specs.Fits.{IsFit, AreFit, IsFitPlace};
+ghost use Rattle.lz_machine.specs.Fits.{IsFit};
 ghost use Rattle.lz_machine.specs.Resumed.{Comes, PartComes, Turns};
 ghost use Rattle.lz_machine.specs.Ranks.{GoesDown, rank, count};
-ghost use Rattle.lz_machine.specs.Turning.{turned_of, argument_slot_of};
+ghost use Rattle.lz_machine.specs.Turning.{turned_of, turned_by, Entered, ComesBehind};
 
 use crate::calls::{
     argued_move, arguing_move, argument_move, arguments, called, calling_move, handed_move,
@@ -17,9 +17,10 @@ use crate::nodes::{
     begin_move, branch_move, first_move, indexed_move, old_move, old_writes, operand_move,
     ready_move, second_move, valued_move, writing_move, writing_writes,
 };
+use crate::parts::part_at;
 use crate::stage::{Came, Locals, Move, Place, Stage};
 use lz_base::Memory;
-use lz_tree::{ScopedExpr, ScopedTarget};
+use lz_tree::ScopedExpr;
 use std::alloc::Global;
 
 /// A node that is done with this value.
@@ -153,214 +154,16 @@ pub enum Turned {
     Stopped { came: Came },
 }
 
-/// Goes on in the index of a target.
-#[cycle(advance)]
-fn target_part(
-    alloc: Global,
-    target: &ScopedTarget,
-    place: Place,
-    given: u32,
-    locals: &mut Locals,
-) -> Result<Came, Memory>
-    requires { IsFitPlace (scoped_target target.now) }
-    ensures { IfOk result (λ came. PartComes (spec.target_index (scoped_target target.now)) (point_of place) given (locals_of locals.old) (came_of came) (locals_of locals.new)) }
+/// What a turn leads to where the part behind which its node comes to this stage came so far.
+fn behind_part(alloc: Global, stage: Stage, came: Came) -> Result<Turned, Memory>
+    ensures { IfOk result (λ t. turned_of t ≡ turned_by (stage_of stage) (came_of came)) }
 {
-    match &target.index {
-        None => Ok(Came::Stops),
-        Some(index) => advance(alloc, index, place, given, locals),
-    }
-}
-
-/// Goes on in the index of a node.
-#[cycle(advance)]
-fn index_part(
-    alloc: Global,
-    e: &ScopedExpr,
-    place: Place,
-    given: u32,
-    locals: &mut Locals,
-) -> Result<Came, Memory>
-    requires { IsFit (scoped_expression e.now) }
-    ensures { IfOk result (λ came. PartComes (spec.index_of (scoped_expression e.now)) (point_of place) given (locals_of locals.old) (came_of came) (locals_of locals.new)) }
-{
-    match e {
-        ScopedExpr::Object { target, .. } => target_part(alloc, target, place, given, locals),
-        ScopedExpr::Address { target, .. } => target_part(alloc, target, place, given, locals),
-        ScopedExpr::Assign { target, .. } => target_part(alloc, target, place, given, locals),
-        ScopedExpr::Step { target, .. } => target_part(alloc, target, place, given, locals),
-        ScopedExpr::Constant { .. }
-        | ScopedExpr::Null { .. }
-        | ScopedExpr::Text { .. }
-        | ScopedExpr::Paren { .. }
-        | ScopedExpr::Unary { .. }
-        | ScopedExpr::Cast { .. }
-        | ScopedExpr::Binary { .. }
-        | ScopedExpr::Choose { .. }
-        | ScopedExpr::Call { .. } => Ok(Came::Stops),
-    }
-}
-
-/// Goes on in the first operand of a node.
-#[cycle(advance)]
-fn first_part(
-    alloc: Global,
-    e: &ScopedExpr,
-    place: Place,
-    given: u32,
-    locals: &mut Locals,
-) -> Result<Came, Memory>
-    requires { IsFit (scoped_expression e.now) }
-    ensures { IfOk result (λ came. PartComes (spec.first_of_node (scoped_expression e.now)) (point_of place) given (locals_of locals.old) (came_of came) (locals_of locals.new)) }
-{
-    match e {
-        ScopedExpr::Paren { inner, .. } => advance(alloc, inner, place, given, locals),
-        ScopedExpr::Unary { of, .. } => advance(alloc, of, place, given, locals),
-        ScopedExpr::Cast { of, .. } => advance(alloc, of, place, given, locals),
-        ScopedExpr::Binary { left, .. } => advance(alloc, left, place, given, locals),
-        ScopedExpr::Choose { test, .. } => advance(alloc, test, place, given, locals),
-        ScopedExpr::Assign { value, .. } => advance(alloc, value, place, given, locals),
-        ScopedExpr::Constant { .. }
-        | ScopedExpr::Null { .. }
-        | ScopedExpr::Text { .. }
-        | ScopedExpr::Object { .. }
-        | ScopedExpr::Address { .. }
-        | ScopedExpr::Step { .. }
-        | ScopedExpr::Call { .. } => Ok(Came::Stops),
-    }
-}
-
-/// Goes on in the second operand of a node, or in the branch of a test that holds.
-#[cycle(advance)]
-fn second_part(
-    alloc: Global,
-    e: &ScopedExpr,
-    place: Place,
-    given: u32,
-    locals: &mut Locals,
-) -> Result<Came, Memory>
-    requires { IsFit (scoped_expression e.now) }
-    ensures { IfOk result (λ came. PartComes (spec.second_of_node (scoped_expression e.now)) (point_of place) given (locals_of locals.old) (came_of came) (locals_of locals.new)) }
-{
-    match e {
-        ScopedExpr::Binary { right, .. } => advance(alloc, right, place, given, locals),
-        ScopedExpr::Choose { yes, .. } => advance(alloc, yes, place, given, locals),
-        ScopedExpr::Paren { .. }
-        | ScopedExpr::Unary { .. }
-        | ScopedExpr::Cast { .. }
-        | ScopedExpr::Assign { .. }
-        | ScopedExpr::Constant { .. }
-        | ScopedExpr::Null { .. }
-        | ScopedExpr::Text { .. }
-        | ScopedExpr::Object { .. }
-        | ScopedExpr::Address { .. }
-        | ScopedExpr::Step { .. }
-        | ScopedExpr::Call { .. } => Ok(Came::Stops),
-    }
-}
-
-/// Goes on in the branch of a test that does not hold.
-#[cycle(advance)]
-fn third_part(
-    alloc: Global,
-    e: &ScopedExpr,
-    place: Place,
-    given: u32,
-    locals: &mut Locals,
-) -> Result<Came, Memory>
-    requires { IsFit (scoped_expression e.now) }
-    ensures { IfOk result (λ came. PartComes (spec.third_of_node (scoped_expression e.now)) (point_of place) given (locals_of locals.old) (came_of came) (locals_of locals.new)) }
-{
-    match e {
-        ScopedExpr::Choose { no, .. } => advance(alloc, no, place, given, locals),
-        ScopedExpr::Binary { .. }
-        | ScopedExpr::Paren { .. }
-        | ScopedExpr::Unary { .. }
-        | ScopedExpr::Cast { .. }
-        | ScopedExpr::Assign { .. }
-        | ScopedExpr::Constant { .. }
-        | ScopedExpr::Null { .. }
-        | ScopedExpr::Text { .. }
-        | ScopedExpr::Object { .. }
-        | ScopedExpr::Address { .. }
-        | ScopedExpr::Step { .. }
-        | ScopedExpr::Call { .. } => Ok(Came::Stops),
-    }
-}
-
-/// Goes on in an argument.
-#[cycle(advance)]
-fn argument_part(
-    alloc: Global,
-    args: &[ScopedExpr],
-    at: usize,
-    place: Place,
-    given: u32,
-    locals: &mut Locals,
-) -> Result<Came, Memory>
-    requires { AreFit (scoped_expressions_of (map scoped_expression args.now)) }
-    ensures { IfOk result (λ came. PartComes (spec.argument_at (scoped_expressions_of (map scoped_expression args.now)) at) (point_of place) given (locals_of locals.old) (came_of came) (locals_of locals.new)) }
-{
-    if at < args.len() {
-        advance(alloc, &args[at], place, given, locals)
-    } else {
-        Ok(Came::Stops)
-    }
-}
-
-/// Goes on in the index of an argument.
-#[cycle(advance)]
-fn handed_part(
-    alloc: Global,
-    args: &[ScopedExpr],
-    at: usize,
-    place: Place,
-    given: u32,
-    locals: &mut Locals,
-) -> Result<Came, Memory>
-    requires { AreFit (scoped_expressions_of (map scoped_expression args.now)) }
-    ensures { IfOk result (λ came. PartComes (spec.index_of_argument (spec.argument_at (scoped_expressions_of (map scoped_expression args.now)) at)) (point_of place) given (locals_of locals.old) (came_of came) (locals_of locals.new)) }
-{
-    if at < args.len() {
-        index_part(alloc, &args[at], place, given, locals)
-    } else {
-        Ok(Came::Stops)
-    }
-}
-
-/// Goes on in an argument of a call, or in its index where it is an object that is handed.
-#[cycle(advance)]
-fn call_part(
-    alloc: Global,
-    e: &ScopedExpr,
-    at: usize,
-    handed: bool,
-    place: Place,
-    given: u32,
-    locals: &mut Locals,
-) -> Result<Came, Memory>
-    requires { IsFit (scoped_expression e.now) }
-    ensures { IfOk result (λ came. PartComes (part_of (scoped_expression e.now) (argument_slot_of handed at)) (point_of place) given (locals_of locals.old) (came_of came) (locals_of locals.new)) }
-{
-    match e {
-        ScopedExpr::Call { args, .. } => {
-            if handed {
-                handed_part(alloc, args, at, place, given, locals)
-            } else {
-                argument_part(alloc, args, at, place, given, locals)
-            }
+    match done_value(&came) {
+        Some(value) => Ok(Turned::Again { stage, value }),
+        None => {
+            let came = came_within(alloc, stage, came)?;
+            Ok(Turned::Stopped { came })
         }
-        ScopedExpr::Choose { .. }
-        | ScopedExpr::Binary { .. }
-        | ScopedExpr::Paren { .. }
-        | ScopedExpr::Unary { .. }
-        | ScopedExpr::Cast { .. }
-        | ScopedExpr::Assign { .. }
-        | ScopedExpr::Constant { .. }
-        | ScopedExpr::Null { .. }
-        | ScopedExpr::Text { .. }
-        | ScopedExpr::Object { .. }
-        | ScopedExpr::Address { .. }
-        | ScopedExpr::Step { .. } => Ok(Came::Stops),
     }
 }
 
@@ -377,29 +180,29 @@ fn part(
     requires { IsFit (scoped_expression e.now) }
     ensures { IfOk result (λ came. PartComes (part_of (scoped_expression e.now) (slot_of (stage_of stage.now))) (point_of place) given (locals_of locals.old) (came_of came) (locals_of locals.new)) }
 {
-    match stage {
-        Stage::Indexed => index_part(alloc, e, place, given, locals),
-        Stage::Valued { .. } => first_part(alloc, e, place, given, locals),
-        Stage::Operand { .. } => first_part(alloc, e, place, given, locals),
-        Stage::First => first_part(alloc, e, place, given, locals),
-        Stage::Second { .. } => second_part(alloc, e, place, given, locals),
-        Stage::Taken => second_part(alloc, e, place, given, locals),
-        Stage::Other => third_part(alloc, e, place, given, locals),
-        Stage::Argument { values } => call_part(alloc, e, values.len(), false, place, given, locals),
-        Stage::Handed { at, .. } => call_part(alloc, e, *at, true, place, given, locals),
-        Stage::Argued { at, .. } => call_part(alloc, e, *at, false, place, given, locals),
-        Stage::Start
-        | Stage::Given
-        | Stage::Settled { .. }
-        | Stage::Ready { .. }
-        | Stage::Old { .. }
-        | Stage::Writing { .. }
-        | Stage::Calling { .. }
-        | Stage::Passing { .. }
-        | Stage::Arguing { .. }
-        | Stage::Woken { .. }
-        | Stage::Made { .. } => Ok(Came::Stops),
+    match part_at(e, stage) {
+        None => Ok(Came::Stops),
+        Some(inner) => {
+            let came = advance(alloc, inner, place, given, locals)?;
+            Ok(came)
+        }
     }
+}
+
+/// Enters the part behind which a node comes to this stage.
+#[cycle(advance)]
+fn enter(
+    alloc: Global,
+    e: &ScopedExpr,
+    stage: Stage,
+    locals: &mut Locals,
+) -> Result<Turned, Memory>
+    requires { IsFit (scoped_expression e.now) }
+    ensures { IfOk result (λ t. Entered (scoped_expression e.now) (stage_of stage) (locals_of locals.old) (turned_of t) (locals_of locals.new)) }
+{
+    let came = part(alloc, e, &stage, Place::At { stage: Stage::Start }, 0, locals)?;
+    let turned = behind_part(alloc, stage, came)?;
+    Ok(turned)
 }
 
 /// One turn of a node from a stage on, with this value.
@@ -417,16 +220,10 @@ fn turn(
 {
     match moved(alloc, e, stage, value, locals)? {
         Move::Comes { came } => Ok(Turned::Stopped { came }),
-        Move::Goes { stage, value } => Ok(Turned::Again { stage, value }),
-        Move::Enters { stage } => {
-            let came = part(alloc, e, &stage, Place::At { stage: Stage::Start }, 0, locals)?;
-            match done_value(&came) {
-                Some(value) => Ok(Turned::Again { stage, value }),
-                None => {
-                    let came = came_within(alloc, stage, came)?;
-                    Ok(Turned::Stopped { came })
-                }
-            }
+        Move::Goes { stage: next, value: held } => Ok(Turned::Again { stage: next, value: held }),
+        Move::Enters { stage: next } => {
+            let turned = enter(alloc, e, next, locals)?;
+            Ok(turned)
         }
     }
 }
@@ -456,6 +253,26 @@ fn go_on(
     }
 }
 
+/// Goes on behind a part that came so far.
+#[cycle(advance)]
+fn go_behind(
+    alloc: Global,
+    e: &ScopedExpr,
+    turned: Turned,
+    locals: &mut Locals,
+) -> Result<Came, Memory>
+    requires { IsFit (scoped_expression e.now) }
+    ensures { IfOk result (λ came. ComesBehind (scoped_expression e.now) (turned_of turned) (locals_of locals.old) (came_of came) (locals_of locals.new)) }
+{
+    match turned {
+        Turned::Again { stage, value } => {
+            let came = go_on(alloc, e, stage, value, locals)?;
+            Ok(came)
+        }
+        Turned::Stopped { came } => Ok(came),
+    }
+}
+
 /// Goes on from a place of an expression, where this value is given, up to the next action or to the end. What the
 /// expression may do from there is what it may do where it came so far, Loc left out, however deep its calls may go.
 /// The time is that of the way down to the place, and of the steps that are no actions.
@@ -471,13 +288,15 @@ pub fn advance(
     ensures { IfOk result (λ came. Comes (scoped_expression e.now) (point_of place) given (locals_of locals.old) (came_of came) (locals_of locals.new)) }
 {
     match place {
-        Place::At { stage } => go_on(alloc, e, stage, given, locals),
+        Place::At { stage } => {
+            let came = go_on(alloc, e, stage, given, locals)?;
+            Ok(came)
+        }
         Place::Within { stage, inner } => {
             let came = part(alloc, e, &stage, Box::into_inner(inner), given, locals)?;
-            match done_value(&came) {
-                Some(value) => go_on(alloc, e, stage, value, locals),
-                None => came_within(alloc, stage, came),
-            }
+            let turned = behind_part(alloc, stage, came)?;
+            let came = go_behind(alloc, e, turned, locals)?;
+            Ok(came)
         }
     }
 }

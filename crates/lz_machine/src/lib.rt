@@ -7,6 +7,7 @@ mod calls;
 mod laws;
 mod moves;
 mod nodes;
+mod parts;
 mod stage;
 mod values;
 
