@@ -1,12 +1,12 @@
 -- How an expression comes as far as its part, and by turns of its own.
-use Rattle.std.proofs.Common.{◌≡◌, ◌<◌, ℕ, zero, suc, List, [], ◌∷◌, Option, Some, None, inl, inr, refl, sym, ◌∙◌, ap, subst}
+use Rattle.std.proofs.Common.{◌≡◌, ◌<◌, ℕ, List, Option, Some, None, inr, refl, sym, ◌∙◌, ap, subst}
 use Rattle.lz_tree.specs.ScopedTrees.{ScopedExpression, ScopedProgram}
 use Rattle.lz_model.specs.Actions.{Act}
 use Rattle.lz_model.specs.WithoutLoc.{without_loc}
-use Rattle.lz_model.specs.Behaviours.{Outcome, done, exits, cut, Behaviour, ends_with, halts, leaves, chooses, ◌and_then◌}
+use Rattle.lz_model.specs.Behaviours.{Outcome, done, exits, cut, Behaviour, ends_with, halts, ◌and_then◌}
 use Rattle.lz_model.specs.CodeTraces.{Locals, Calls, IsAny}
 use Rattle.lz_model.specs.Programs.{calls_within}
-use Rattle.lz_model.proofs.FrontsLemmas.{Fronts, FrontCalls, fronts_updates, fronts_chooses, fronts_frame, fronts_calls}
+use Rattle.lz_model.proofs.FrontsLemmas.{FrontCalls, fronts_updates, fronts_chooses, fronts_frame, fronts_calls}
 use Rattle.lz_machine.specs.Stages.{Stage, start, Point, at_stage, within, Came, settles, acts, reads, asks, signals, creates, calls_on, fails, refuses, quits, stops, Move, enters, goes, comes, inside, value_if_done}
 use Rattle.lz_machine.specs.Moves.{slot_of, part_of, arguments_of, turn_of, left_by}
 use Rattle.lz_machine.specs.Seen.{Seen, Alike}

@@ -1,6 +1,6 @@
 -- The part of a node behind which a stage comes: it fits, and it is smaller.
-use Rattle.std.proofs.Common.{◌≡◌, ℕ, zero, suc, ◌+◌, ◌<◌, ◌≤◌, Option, Some, None, refl, sym, ◌∙◌, ap, subst, arith}
-use Rattle.lz_tree.specs.ScopedTrees.{ScopedExpression, constant, null, text, object, address, paren, unary, cast, binary, choose, assign, step, call, Lvalue, lvalue, ScopedIndex, whole, element, ScopedExpressions, none, and}
+use Rattle.std.proofs.Common.{◌≡◌, ℕ, zero, suc, ◌<◌, Option, Some, None, refl, subst, arith}
+use Rattle.lz_tree.specs.ScopedTrees.{ScopedExpression, constant, null, text, object, address, paren, unary, cast, binary, choose, assign, step, call, Lvalue, lvalue, whole, element, ScopedExpressions, none, and}
 use Rattle.lz_machine.specs.Moves.{Slot, no_slot, index_slot, first_slot, second_slot, third_slot, argument_slot, handed_slot, argument_at, target_index, index_of, first_of_node, second_of_node, third_of_node, arguments_of, index_of_argument, part_of}
 use Rattle.lz_machine.specs.Fits.{IsFit, IsFitPlace, AreFit}
 use Rattle.lz_machine.specs.Sizes.{size, place_size, sizes}

@@ -1,5 +1,5 @@
 -- Trusted: the trees that a thread can run: their constants are words, and the elements of their objects have numbers below 2 ^ 32.
-use Rattle.std.specs.Prelude.{ℕ, ◌+◌, ◌<◌, ◌≤◌, Option, Some, None, ⊤}
+use Rattle.std.specs.Prelude.{◌+◌, ◌<◌, ◌≤◌, ⊤}
 use Rattle.lz_base.specs.Words.{value_bound}
 use Rattle.lz_tree.specs.declared.scoped.Object.{Object}
 use Rattle.lz_tree.specs.ScopedTrees.{ScopedExpression, constant, null, text, object, address, paren, unary, cast, binary, choose, assign, step, call, Lvalue, lvalue, ScopedIndex, whole, element, ScopedExpressions, none, and}

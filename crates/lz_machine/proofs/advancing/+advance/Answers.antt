@@ -1,6 +1,6 @@
-use Rattle.std.proofs.Common.{◌≡◌, ◌<◌, ◌+◌, ◌*◌, sym, ap, ◌∙◌, arith, rules}
+use Rattle.std.proofs.Common.{◌<◌, sym, ap, ◌∙◌, arith}
 use Rattle.lz_tree.specs.ScopedTrees.{scoped_expression}
-use Rattle.lz_machine.specs.Stages.{start, at_stage, stage_of, point_of, came_of, move_of, locals_of}
+use Rattle.lz_machine.specs.Stages.{stage_of, point_of, came_of, move_of, locals_of}
 use Rattle.lz_machine.specs.Moves.{slot_of}
 use Rattle.lz_machine.specs.Sizes.{size}
 use Rattle.lz_machine.specs.Turning.{turned_of}

@@ -1,4 +1,4 @@
-use Rattle.std.proofs.Common.{◌≡◌, sym}
+use Rattle.std.proofs.Common.{sym}
 use Rattle.lz_machine.proofs.ArgumentsLemmas.{argument_in, argument_out}
 use Rattle.lz_machine.proofs.parts.argument_at.Goals as goal
 
