@@ -5,4 +5,5 @@ pub mod MovesLemmas
 pub mod PartsLemmas
 pub mod RanksLemmas
 pub mod SeenLemmas
+pub mod StationsLemmas
 pub mod StepsLemmas

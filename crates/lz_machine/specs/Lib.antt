@@ -6,4 +6,7 @@ pub mod Resumed
 pub mod Seen
 pub mod Sizes
 pub mod Stages
+pub mod StationMoves
+pub mod StationTraces
+pub mod Stations
 pub mod Turning

@@ -12,5 +12,5 @@ mod stage;
 mod values;
 
 pub use advancing::advance;
-pub use laws::{a_turn_of_a_node, turns_end};
+pub use laws::{a_turn_of_a_node, a_turn_of_a_statement, turns_end};
 pub use stage::{Came, Locals, Move, Place, Stage};
