@@ -14,9 +14,9 @@ use Rattle.lz_machine.specs.Seen.{Alike}
 use Rattle.lz_machine.specs.Moves.{argument_at}
 use Rattle.lz_machine.specs.Resumed.{rest_from}
 use Rattle.lz_machine.specs.Stations as at
-use Rattle.lz_machine.specs.Stations.{Station, start, led, evaluated, listing, declaring, filling, arbitrary, filled, tested, taken, other, opened, turning, turned, bodied, changed, doing, returned, labelled, StationMove, enters_value, enters_part, moves_on, reaches}
-use Rattle.lz_machine.specs.StationMoves.{parts_of, statement_at, declared_by, declarator_at, Loop, no_loop, before_turns, behind_turns, loop_of, value_of, element_value, initializer_of, in_branch, test_of, change_of, body_of, begin_statement, follow_move, list_move, declare_move, listed_move, fill_integer, fill_handle, fill_object, fill_move, filled_object, valued_move, arbitrary_move, filled_move, test_move, tested_move, turn_move, turning_move, do_again, turned_move, step_move, behind_body, bodied_move, changed_move, do_move, doing_move, return_move, station_move, cleared, emptied, cleared_integer, cleared_object, cleared_by, arbitrary_object, filled_one, arbitrary_by, filled_by, station_leaves}
-use Rattle.lz_machine.specs.StationTraces.{parts_from, declarators_from, integers_from, elements_from, gets, gets_value, filling_trace, arbitrary_filled, filled_trace, tested_trace, turns_left, do_turns_left, next_turn, turning_trace, turned_trace, bodied_trace, changed_trace, doing_trace, returned_trace, station_trace, with_value, with_statement, station_moved}
+use Rattle.lz_machine.specs.Stations.{Station, start, led, evaluated, listing, declaring, filling, arbitrary, filled, initialized, tested, taken, other, opened, turning, turned, bodied, changed, doing, returned, labelled, StationMove, enters_value, enters_part, moves_on, reaches}
+use Rattle.lz_machine.specs.StationMoves.{parts_of, statement_at, declared_by, declarator_at, Loop, no_loop, before_turns, behind_turns, loop_of, value_of, element_value, initializer_of, in_branch, test_of, change_of, body_of, begin_statement, follow_move, list_move, listed_so, declare_move, listed_move, fill_integer, fill_handle, fill_object, fill_move, filled_if, filled_object, valued_move, arbitrary_move, filled_move, single_value, single_move, initialized_move, test_move, tested_move, turn_move, turning_move, do_again, turned_move, step_move, behind_body, bodied_move, changed_move, do_move, doing_move, return_move, station_move, cleared, emptied, cleared_integer, cleared_object, cleared_by, kept_if, arbitrary_object, filled_one, single_one, initialized_by, arbitrary_by, filled_by, station_leaves}
+use Rattle.lz_machine.specs.StationTraces.{parts_from, declarators_from, integers_from, elements_from, gets_if, gets, gets_value, gets_single, initialized_trace, listed_part, filling_trace, arbitrary_filled, filled_trace, tested_trace, turns_left, do_turns_left, next_turn, turning_trace, turned_trace, bodied_trace, changed_trace, doing_trace, returned_trace, station_trace, with_value, with_statement, station_moved}
 use Rattle.lz_machine.proofs.SeenLemmas.{alike_same, alike_back, alike_alike, alike_behind, alike_value, alike_halts, alike_loc, alike_gives, alike_ends, alike_assoc}
 
 -- ---- lists from a place on
@@ -99,9 +99,14 @@ module _ (calls : Calls) (c : FrontCalls calls) (n : ℕ) where
       → Alike (statements_trace calls n (parts_from (parts_of s) k)) t (station_moved calls n s (list_move o k)) t
   lists s k None is t = subst (λ (x : ScopedStatements). Alike (statements_trace calls n x) t (ends_with normal) t) (sym (parts_none (parts_of s) k is)) (alike_same _ t)
   lists s k (Some a) is t =
-      let code : ScopedStatement → Behaviour Locals Flow = λ x. statement_trace calls n x and_then λ flow. led_on flow (statements_trace calls n (parts_from (parts_of s) (suc k))) in
-      let one : Alike (code a) t (with_statement (statement_at (parts_of s) k) code) t = subst (λ (x : Option ScopedStatement). Alike (code a) t (with_statement x code) t) (sym is) (alike_same _ t) in
-      subst (λ (x : ScopedStatements). Alike (statements_trace calls n x) t (with_statement (statement_at (parts_of s) k) code) t) (sym (parts_some (parts_of s) k a is)) one
+      let code : Option ScopedStatement → ScopedStatement → Behaviour Locals Flow = λ o x. statement_trace calls n x and_then λ flow. listed_part calls n (parts_of s) o k flow in
+      let o = statement_at (parts_of s) k in
+      let one : Alike (code (Some a) a) t (with_statement o (code o)) t = subst (λ (x : Option ScopedStatement). Alike (code (Some a) a) t (with_statement x (code x)) t) (sym is) (alike_same _ t) in
+      subst (λ (x : ScopedStatements). Alike (statements_trace calls n x) t (with_statement o (code o)) t) (sym (parts_some (parts_of s) k a is)) one
+
+  lists_behind : (s : ScopedStatement) (k : ℕ) (o : Option ScopedStatement) (flow : Flow) (t : Locals) → Alike (listed_part calls n (parts_of s) o k flow) t (station_moved calls n s (listed_so o flow k)) t
+  lists_behind s k None flow t = alike_same _ t
+  lists_behind s k (Some a) flow t = follows s flow (listing (suc k)) t
 
   -- ---- declarations
 
@@ -125,6 +130,20 @@ module _ (calls : Calls) (c : FrontCalls calls) (n : ℕ) where
       by_declarator = subst (λ (x : Option ScopedInitDeclarator). Alike (with_value (element_value d.first i) (λ y. expression_trace calls y and_then λ v. filled_trace calls (declared_by s) (Some d) k i v)) t
           (with_value (element_value (initializer_of x) i) (λ y. expression_trace calls y and_then λ v. filled_trace calls (declared_by s) x k i v)) t) (sym is) (alike_same _ t)
 
+  -- the one value of an object
+  at_single : (s : ScopedStatement) (k : ℕ) (d : ScopedInitDeclarator) (value : ScopedExpression) → declarator_at (declared_by s) k ≡ Some d → single_value d.first ≡ Some value → (t : Locals)
+      → Alike (expression_trace calls value and_then λ v. gets_single d.line d.object (Some value) v (declarators_trace calls (declarators_from (declared_by s) (suc k)))) t (station_moved calls n s (enters_value (initialized k))) t
+  at_single s k d value is has t =
+      let code : Option ScopedExpression → ScopedExpression → Behaviour Locals Flow = λ o x. expression_trace calls x and_then λ v. gets_single d.line d.object o v (declarators_trace calls (declarators_from (declared_by s) (suc k))) in
+      let one : Alike (code (Some value) value) t (with_value (single_value d.first) (code (single_value d.first))) t =
+      subst (λ (o : Option ScopedExpression). Alike (code (Some value) value) t (with_value o (code o)) t) (sym has) (alike_same _ t) in
+      alike_alike one by_declarator
+    where
+      by_declarator : Alike (with_value (single_value d.first) (λ x. expression_trace calls x and_then λ v. gets_single d.line d.object (single_value d.first) v (declarators_trace calls (declarators_from (declared_by s) (suc k))))) t
+          (station_moved calls n s (enters_value (initialized k))) t
+      by_declarator = subst (λ (x : Option ScopedInitDeclarator). Alike (with_value (single_value d.first) (λ y. expression_trace calls y and_then λ v. initialized_trace calls (declared_by s) (Some d) k v)) t
+          (with_value (single_value (initializer_of x)) (λ y. expression_trace calls y and_then λ v. initialized_trace calls (declared_by s) x k v)) t) (sym is) (alike_same _ t)
+
   -- all elements, from the first on
   from_first : (s : ScopedStatement) (k : ℕ) (d : ScopedInitDeclarator) → declarator_at (declared_by s) k ≡ Some d → (code : ℕ → ℕ → Behaviour Locals Flow) (first len : ℕ) (rest : Behaviour Locals Flow) (t : Locals)
       → Alike (code (first + 0) (len - 0) and_then λ _. rest) t (station_trace calls n s (filling k 0) 0 normal) t
@@ -147,13 +166,7 @@ module _ (calls : Calls) (c : FrontCalls calls) (n : ℕ) where
       from_first s k d is (λ x y. listed_trace calls line kind values x y) first len _ t (at_filling s k 0 d is t)
   declares_object s k line (Local first len kind) length (single value) is t =
       let d : ScopedInitDeclarator = record { line = line; object = Local first len kind; length = length; first = single value } in
-      let rest : Behaviour Locals Flow = declarators_trace calls (declarators_from (declared_by s) (suc k)) in
-      let zeroth : first + 0 ≡ first = omega arith in
-      let one : (v : ℕ) (u : Locals) → Alike (loc line (set_local (first + 0) (converted v (kind_of value) kind)) normal and_then λ _. rest) u (gets_value line (Local first len kind) (Some value) 0 v (filling_trace calls (declared_by s) (Some d) k 1)) u =
-      λ v u. alike_behind fronts_updates (λ w x. alike_back (alike_value normal (λ _. rest) x)) u in
-      let two : (v : ℕ) (u : Locals) → Alike (loc line (set_local first (converted v (kind_of value) kind)) normal and_then λ _. rest) u (gets_value line (Local first len kind) (Some value) 0 v (filling_trace calls (declared_by s) (Some d) k 1)) u =
-      λ v u. subst (λ (x : ℕ). Alike (loc line (set_local x (converted v (kind_of value) kind)) normal and_then λ _. rest) u (gets_value line (Local first len kind) (Some value) 0 v (filling_trace calls (declared_by s) (Some d) k 1)) u) zeroth (one v u) in
-      alike_alike (alike_assoc _ _ _ t) (alike_alike (alike_behind (fronts_expression calls c value) two t) (at_value s k 0 d value is refl t))
+      alike_alike (alike_assoc _ _ _ t) (at_single s k d value is refl t)
   declares_object s k line (Handle first len) length value is t =
       let d : ScopedInitDeclarator = record { line = line; object = Handle first len; length = length; first = value } in
       from_first s k d is (λ x y. no_threads_trace line x y) first len _ t (at_filling s k 0 d is t)
@@ -186,17 +199,19 @@ module _ (calls : Calls) (c : FrontCalls calls) (n : ℕ) where
       arbitrary_next : (u : Locals) → Alike (arbitrary_trace line kind (suc (first + i)) (len - suc i) and_then λ _. rest) u (filling_trace calls (declared_by s) (Some arbitrary_of) k (suc i)) u
       arbitrary_next u = subst (λ (x : ℕ). Alike (arbitrary_trace line kind x (len - suc i) and_then λ _. rest) u (filling_trace calls (declared_by s) (Some arbitrary_of) k (suc i)) u) (sym (next_one first i)) (alike_same _ u)
 
-      arbitrary_one : (v : ℕ) (u : Locals)
+      arbitrary_one : nat_lt i len ≡ true → (v : ℕ) (u : Locals)
           → Alike ((loc line (set_local (first + i) v) normal and_then λ _. arbitrary_trace line kind (suc (first + i)) (len - suc i)) and_then λ _. rest) u (arbitrary_filled calls (declared_by s) (Some arbitrary_of) k i v) u
-      arbitrary_one v u = alike_alike (alike_assoc _ _ _ u) (alike_behind fronts_updates (λ w x. arbitrary_next x) u)
+      arbitrary_one fit v u =
+          subst (λ (b : Bool). Alike ((loc line (set_local (first + i) v) normal and_then λ _. arbitrary_trace line kind (suc (first + i)) (len - suc i)) and_then λ _. rest) u
+          (gets_if b line (first + i) v (filling_trace calls (declared_by s) (Some arbitrary_of) k (suc i))) u) (sym fit) (alike_alike (alike_assoc _ _ _ u) (alike_behind fronts_updates (λ w x. arbitrary_next x) u))
 
-      arbitrary_so : (t : Locals) → Alike (arbitrary_trace line kind (first + i) (suc (len - suc i)) and_then λ _. rest) t (station_moved calls n s (fill_integer true kind nothing k i)) t
-      arbitrary_so t =
+      arbitrary_so : nat_lt i len ≡ true → (t : Locals) → Alike (arbitrary_trace line kind (first + i) (suc (len - suc i)) and_then λ _. rest) t (station_moved calls n s (fill_integer true kind nothing k i)) t
+      arbitrary_so fit t =
           subst (λ (x : Option ScopedInitDeclarator). Alike (arbitrary_trace line kind (first + i) (suc (len - suc i)) and_then λ _. rest) t (inputs 0 kind and_then λ v. arbitrary_filled calls (declared_by s) x k i v) t) (sym is)
-          (alike_alike (alike_assoc _ _ _ t) (alike_behind (fronts_chooses (λ v. fronts_updates)) arbitrary_one t))
+          (alike_alike (alike_assoc _ _ _ t) (alike_behind (fronts_chooses (λ v. fronts_updates)) (arbitrary_one fit) t))
 
       fills_arbitrary : (b : Bool) → nat_lt i len ≡ b → (t : Locals) → Alike (arbitrary_trace line kind (first + i) (len - i) and_then λ _. rest) t (station_moved calls n s (fill_integer b kind nothing k i)) t
-      fills_arbitrary true fit t = subst (λ (x : ℕ). Alike (arbitrary_trace line kind (first + i) x and_then λ _. rest) t (station_moved calls n s (fill_integer true kind nothing k i)) t) (sym (some_left i len fit)) (arbitrary_so t)
+      fills_arbitrary true fit t = subst (λ (x : ℕ). Alike (arbitrary_trace line kind (first + i) x and_then λ _. rest) t (station_moved calls n s (fill_integer true kind nothing k i)) t) (sym (some_left i len fit)) (arbitrary_so fit t)
       fills_arbitrary false out t = fills_none (λ x. arbitrary_trace line kind (first + i) x) len t (alike_value normal (λ _. rest) t) out
 
     module _ (first len : ℕ) (kind : IntType) (values : ScopedExpressions) (is : declarator_at (declared_by s) k ≡ Some (record { line = line; object = Local first len kind; length = length; first = listed values })) where
@@ -209,16 +224,24 @@ module _ (calls : Calls) (c : FrontCalls calls) (n : ℕ) where
           subst (λ (ys : ScopedExpressions). Alike (listed_trace calls line kind ys (suc (first + i)) (len - suc i) and_then λ _. rest) u (filling_trace calls (declared_by s) (Some listed_of) k (suc i)) u) (sym same)
           (subst (λ (x : ℕ). Alike (listed_trace calls line kind (rest_from values (suc i)) x (len - suc i) and_then λ _. rest) u (filling_trace calls (declared_by s) (Some listed_of) k (suc i)) u) (sym (next_one first i)) (alike_same _ u))
 
-      listed_so : (o : Option ScopedExpression) → argument_at values i ≡ o → (t : Locals)
+      listed_gets : (value : ScopedExpression) → nat_lt i len ≡ true → (v : ℕ) (u : Locals)
+          → Alike ((loc line (set_local (first + i) (converted v (kind_of value) kind)) normal and_then λ _. listed_trace calls line kind (rest_from values (suc i)) (suc (first + i)) (len - suc i)) and_then λ _. rest) u
+          (gets_value line (Local first len kind) (Some value) i v (filling_trace calls (declared_by s) (Some listed_of) k (suc i))) u
+      listed_gets value fit v u =
+          subst (λ (b : Bool). Alike ((loc line (set_local (first + i) (converted v (kind_of value) kind)) normal and_then λ _. listed_trace calls line kind (rest_from values (suc i)) (suc (first + i)) (len - suc i)) and_then λ _. rest) u
+          (gets_if b line (first + i) (converted v (kind_of value) kind) (filling_trace calls (declared_by s) (Some listed_of) k (suc i))) u) (sym fit)
+          (alike_alike (alike_assoc _ _ _ u) (alike_behind fronts_updates (λ w x. listed_next (rest_from values (suc i)) refl x) u))
+
+      elements_so : nat_lt i len ≡ true → (o : Option ScopedExpression) → argument_at values i ≡ o → (t : Locals)
           → Alike (listed_trace calls line kind (rest_from values i) (first + i) (suc (len - suc i)) and_then λ _. rest) t (station_moved calls n s (listed_move o k i)) (cleared true o (first + i) t)
-      listed_so None out t =
+      elements_so fit None out t =
           subst (λ (xs : ScopedExpressions). Alike (listed_trace calls line kind xs (first + i) (suc (len - suc i)) and_then λ _. rest) t (station_trace calls n s (filling k (suc i)) 0 normal) (set_local (first + i) 0 t)) (sym (rest_none values i out))
           (alike_alike (alike_assoc _ _ _ t) (alike_alike (alike_loc line (set_local (first + i) 0) normal _ t)
           (alike_alike (listed_next none (sym (rest_behind values i out)) (set_local (first + i) 0 t)) (at_filling s k (suc i) listed_of is (set_local (first + i) 0 t)))))
-      listed_so (Some value) has t =
+      elements_so fit (Some value) has t =
           subst (λ (xs : ScopedExpressions). Alike (listed_trace calls line kind xs (first + i) (suc (len - suc i)) and_then λ _. rest) t (station_moved calls n s (enters_value (filled k i))) t) (sym (rest_some values i value has))
           (alike_alike (alike_assoc _ _ _ t) (alike_alike
-          (alike_behind (fronts_expression calls c value) (λ v u. alike_alike (alike_assoc _ _ _ u) (alike_behind fronts_updates (λ w x. listed_next (rest_from values (suc i)) refl x) u)) t)
+          (alike_behind (fronts_expression calls c value) (listed_gets value fit) t)
           (at_value s k i listed_of value is has t)))
 
       listed_ends : (xs : ScopedExpressions) (t : Locals) → Alike (listed_trace calls line kind xs (first + i) 0 and_then λ _. rest) t rest t
@@ -229,7 +252,7 @@ module _ (calls : Calls) (c : FrontCalls calls) (n : ℕ) where
           → Alike (listed_trace calls line kind (rest_from values i) (first + i) (len - i) and_then λ _. rest) t (station_moved calls n s (fill_integer b kind (listed values) k i)) (cleared_integer b (listed values) (first + i) i t)
       fills_listed true fit t =
           subst (λ (x : ℕ). Alike (listed_trace calls line kind (rest_from values i) (first + i) x and_then λ _. rest) t (station_moved calls n s (listed_move (argument_at values i) k i)) (cleared true (argument_at values i) (first + i) t)) (sym (some_left i len fit))
-          (listed_so (argument_at values i) refl t)
+          (elements_so fit (argument_at values i) refl t)
       fills_listed false out t = fills_none (λ x. listed_trace calls line kind (rest_from values i) (first + i) x) len t (listed_ends (rest_from values i) t) out
 
     module _ (first len : ℕ) (value : ScopedInitializer) (is : declarator_at (declared_by s) k ≡ Some (record { line = line; object = Handle first len; length = length; first = value })) where
@@ -273,7 +296,11 @@ module _ (calls : Calls) (c : FrontCalls calls) (n : ℕ) where
   -- an element that gets a value
   gets_so : (s : ScopedStatement) (k i v : ℕ) (d : ScopedInitDeclarator) → declarator_at (declared_by s) k ≡ Some d → (line : ℕ) (object : Object) (t : Locals)
       → Alike (gets line object i v (filling_trace calls (declared_by s) (Some d) k (suc i))) t (station_moved calls n s (filled_object object k i)) (arbitrary_object object i v t)
-  gets_so s k i v d is line (Local first len kind) t = alike_alike (alike_loc line (set_local (first + i) v) normal _ t) (at_filling s k (suc i) d is (set_local (first + i) v t))
+  gets_so s k i v d is line (Local first len kind) t = by (nat_lt i len)
+    where
+      by : (b : Bool) → Alike (gets_if b line (first + i) v (filling_trace calls (declared_by s) (Some d) k (suc i))) t (station_moved calls n s (filled_if b k i)) (kept_if b (first + i) v t)
+      by true = alike_alike (alike_loc line (set_local (first + i) v) normal _ t) (at_filling s k (suc i) d is (set_local (first + i) v t))
+      by false = alike_same _ t
   gets_so s k i v d is line (Handle first len) t = alike_same _ t
   gets_so s k i v d is line (Cell first len kind) t = alike_same _ t
   gets_so s k i v d is line (Mutex first len) t = alike_same _ t
@@ -301,6 +328,21 @@ module _ (calls : Calls) (c : FrontCalls calls) (n : ℕ) where
       → Alike (filled_trace calls (declared_by s) o k i v) t (station_moved calls n s (filled_move o k i)) (filled_by o i v t)
   fills_value s k i v None is t = alike_same _ t
   fills_value s k i v (Some d) is t = values_so s k i v d is d.line d.object (element_value d.first i) t
+
+  singles : (s : ScopedStatement) (k v line : ℕ) (object : Object) (o : Option ScopedExpression) (t : Locals)
+      → Alike (gets_single line object o v (declarators_trace calls (declarators_from (declared_by s) (suc k)))) t (station_moved calls n s (single_move object o k)) (single_one object o v t)
+  singles s k v line object None t = alike_same _ t
+  singles s k v line (Local first len kind) (Some value) t = alike_loc line (set_local first (converted v (kind_of value) kind)) normal _ t
+  singles s k v line (Handle first len) (Some value) t = alike_same _ t
+  singles s k v line (Cell first len kind) (Some value) t = alike_same _ t
+  singles s k v line (Mutex first len) (Some value) t = alike_same _ t
+  singles s k v line (Cond first len) (Some value) t = alike_same _ t
+  singles s k v line (Routine function) (Some value) t = alike_same _ t
+  singles s k v line (Known name) (Some value) t = alike_same _ t
+
+  initializes : (s : ScopedStatement) (k v : ℕ) (o : Option ScopedInitDeclarator) (t : Locals) → Alike (initialized_trace calls (declared_by s) o k v) t (station_moved calls n s (initialized_move o k)) (initialized_by o v t)
+  initializes s k v None t = alike_same _ t
+  initializes s k v (Some d) t = singles s k v d.line d.object (single_value d.first) t
 
   -- ---- `if`
 
@@ -413,11 +455,12 @@ module _ (calls : Calls) (c : FrontCalls calls) (n : ℕ) where
   stations_so s (led own) v flow t = alike_same _ t
   stations_so s evaluated v flow t = alike_same _ t
   stations_so s (listing k) v flow t = lists s k (statement_at (parts_of s) k) refl t
-  stations_so s (at.listed k) v flow t = follows s flow (listing (suc k)) t
+  stations_so s (at.listed k) v flow t = lists_behind s k (statement_at (parts_of s) k) flow t
   stations_so s (declaring k) v flow t = declares s k (declarator_at (declared_by s) k) refl t
   stations_so s (filling k i) v flow t = fills s k i (declarator_at (declared_by s) k) refl t
   stations_so s (arbitrary k i) v flow t = arbitraries s k i v (declarator_at (declared_by s) k) refl t
   stations_so s (filled k i) v flow t = fills_value s k i v (declarator_at (declared_by s) k) refl t
+  stations_so s (initialized k) v flow t = initializes s k v (declarator_at (declared_by s) k) t
   stations_so s tested v flow t = tests s v t
   stations_so s taken v flow t = alike_same _ t
   stations_so s other v flow t = alike_same _ t

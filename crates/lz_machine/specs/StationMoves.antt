@@ -9,7 +9,7 @@ use Rattle.lz_tree.specs.ScopedTrees.{ScopedExpression, ScopedExpressions, Scope
 use Rattle.lz_model.specs.CodeTraces.{Locals, set_local, set_handle, kind_of, Flow, normal, breaks, continues, returns}
 use Rattle.lz_machine.specs.Moves.{argument_at}
 use Rattle.lz_machine.specs.Stations as at
-use Rattle.lz_machine.specs.Stations.{Station, start, led, evaluated, listing, declaring, filling, arbitrary, filled, tested, taken, other, opened, turning, turned, bodied, changed, doing, returned, labelled, Footing, at_station, Pause, asks, Reached, leads, pauses, stops, StationMove, enters_value, enters_part, moves_on, reaches}
+use Rattle.lz_machine.specs.Stations.{Station, start, led, evaluated, listing, declaring, filling, arbitrary, filled, initialized, tested, taken, other, opened, turning, turned, bodied, changed, doing, returned, labelled, Footing, at_station, Pause, asks, Reached, leads, pauses, stops, StationMove, enters_value, enters_part, moves_on, reaches}
 
 -- ---- what a statement is made of
 
@@ -137,12 +137,17 @@ body_of no_loop = None
 body_of (before_turns line test change body) = Some body
 body_of (behind_turns line test body) = Some body
 
--- the value of an element of an object
+-- the value of an element of an object, in a list of values
 abbrev pub element_value : ScopedInitializer → ℕ → Option ScopedExpression
 element_value nothing i = None
-element_value (single value) zero = Some value
-element_value (single value) (suc i) = None
+element_value (single value) i = None
 element_value (listed values) i = argument_at values i
+
+-- the one value of an object
+abbrev pub single_value : ScopedInitializer → Option ScopedExpression
+single_value nothing = None
+single_value (single value) = Some value
+single_value (listed values) = None
 
 abbrev pub initializer_of : Option ScopedInitDeclarator → ScopedInitializer
 initializer_of None = nothing
@@ -159,6 +164,7 @@ value_at s (declaring k) = None
 value_at s (filling k i) = None
 value_at s (arbitrary k i) = None
 value_at s (filled k i) = element_value (initializer_of (declarator_at (declared_by s) k)) i
+value_at s (initialized k) = single_value (initializer_of (declarator_at (declared_by s) k))
 value_at s tested = value_of s
 value_at s taken = None
 value_at s other = None
@@ -182,6 +188,7 @@ part_at s (declaring k) = None
 part_at s (filling k i) = None
 part_at s (arbitrary k i) = None
 part_at s (filled k i) = None
+part_at s (initialized k) = None
 part_at s tested = None
 part_at s taken = first_part s
 part_at s other = second_part s
@@ -227,10 +234,15 @@ abbrev pub list_move : Option ScopedStatement → ℕ → StationMove
 list_move None k = reaches (leads normal)
 list_move (Some s) k = enters_part (at.listed k)
 
+-- behind a part of a block
+abbrev pub listed_so : Option ScopedStatement → Flow → ℕ → StationMove
+listed_so None flow k = reaches stops
+listed_so (Some s) flow k = follow_move flow (listing (suc k))
+
 -- a declarator
 abbrev pub integer_move : ScopedInitializer → ℕ → StationMove
 integer_move nothing k = moves_on (filling k 0)
-integer_move (single value) k = enters_value (filled k 0)
+integer_move (single value) k = enters_value (initialized k)
 integer_move (listed values) k = moves_on (filling k 0)
 
 abbrev pub object_move : Object → ScopedInitializer → ℕ → StationMove
@@ -275,8 +287,12 @@ fill_move None k i = reaches stops
 fill_move (Some d) k i = fill_object d.object d.first k i
 
 -- an element whose value, or input, is there
+abbrev pub filled_if : Bool → ℕ → ℕ → StationMove
+filled_if false k i = reaches stops
+filled_if true k i = moves_on (filling k (suc i))
+
 abbrev pub filled_object : Object → ℕ → ℕ → StationMove
-filled_object (Local first len kind) k i = moves_on (filling k (suc i))
+filled_object (Local first len kind) k i = filled_if (nat_lt i len) k i
 filled_object (Handle first len) k i = reaches stops
 filled_object (Cell first len kind) k i = reaches stops
 filled_object (Mutex first len) k i = reaches stops
@@ -295,6 +311,24 @@ valued_move object (Some value) k i = filled_object object k i
 abbrev pub filled_move : Option ScopedInitDeclarator → ℕ → ℕ → StationMove
 filled_move None k i = reaches stops
 filled_move (Some d) k i = valued_move d.object (element_value d.first i) k i
+
+-- an object whose one value is there
+abbrev pub single_object : Object → ℕ → StationMove
+single_object (Local first len kind) k = moves_on (declaring (suc k))
+single_object (Handle first len) k = reaches stops
+single_object (Cell first len kind) k = reaches stops
+single_object (Mutex first len) k = reaches stops
+single_object (Cond first len) k = reaches stops
+single_object (Routine function) k = reaches stops
+single_object (Known name) k = reaches stops
+
+abbrev pub single_move : Object → Option ScopedExpression → ℕ → StationMove
+single_move object None k = reaches stops
+single_move object (Some value) k = single_object object k
+
+abbrev pub initialized_move : Option ScopedInitDeclarator → ℕ → StationMove
+initialized_move None k = reaches stops
+initialized_move (Some d) k = single_move d.object (single_value d.first) k
 
 -- the branches of `if`
 abbrev pub other_move : Option ScopedStatement → StationMove
@@ -389,11 +423,12 @@ station_move n s start v flow = begin_statement n s
 station_move n s (led own) v flow = reaches (leads own)
 station_move n s evaluated v flow = reaches (leads normal)
 station_move n s (listing k) v flow = list_move (statement_at (parts_of s) k) k
-station_move n s (at.listed k) v flow = follow_move flow (listing (suc k))
+station_move n s (at.listed k) v flow = listed_so (statement_at (parts_of s) k) flow k
 station_move n s (declaring k) v flow = declare_move (declarator_at (declared_by s) k) k
 station_move n s (filling k i) v flow = fill_move (declarator_at (declared_by s) k) k i
 station_move n s (arbitrary k i) v flow = arbitrary_move (declarator_at (declared_by s) k) k i
 station_move n s (filled k i) v flow = filled_move (declarator_at (declared_by s) k) k i
+station_move n s (initialized k) v flow = initialized_move (declarator_at (declared_by s) k) k
 station_move n s tested v flow = tested_move s v
 station_move n s taken v flow = reaches (leads flow)
 station_move n s other v flow = reaches (leads flow)
@@ -436,8 +471,13 @@ abbrev pub cleared_by : Option ScopedInitDeclarator → ℕ → Locals → Local
 cleared_by None i locals = locals
 cleared_by (Some d) i locals = cleared_object d.object d.first i locals
 
+-- an element in range that gets this value
+abbrev pub kept_if : Bool → ℕ → ℕ → Locals → Locals
+kept_if false e v locals = locals
+kept_if true e v locals = set_local e v locals
+
 abbrev pub arbitrary_object : Object → ℕ → ℕ → Locals → Locals
-arbitrary_object (Local first len kind) i v locals = set_local (first + i) v locals
+arbitrary_object (Local first len kind) i v locals = kept_if (nat_lt i len) (first + i) v locals
 arbitrary_object (Handle first len) i v locals = locals
 arbitrary_object (Cell first len kind) i v locals = locals
 arbitrary_object (Mutex first len) i v locals = locals
@@ -451,7 +491,7 @@ arbitrary_by (Some d) i v locals = arbitrary_object d.object i v locals
 
 abbrev pub filled_one : Object → Option ScopedExpression → ℕ → ℕ → Locals → Locals
 filled_one object None i v locals = locals
-filled_one (Local first len kind) (Some value) i v locals = set_local (first + i) (converted v (kind_of value) kind) locals
+filled_one (Local first len kind) (Some value) i v locals = kept_if (nat_lt i len) (first + i) (converted v (kind_of value) kind) locals
 filled_one (Handle first len) (Some value) i v locals = locals
 filled_one (Cell first len kind) (Some value) i v locals = locals
 filled_one (Mutex first len) (Some value) i v locals = locals
@@ -463,6 +503,20 @@ abbrev pub filled_by : Option ScopedInitDeclarator → ℕ → ℕ → Locals �
 filled_by None i v locals = locals
 filled_by (Some d) i v locals = filled_one d.object (element_value d.first i) i v locals
 
+abbrev pub single_one : Object → Option ScopedExpression → ℕ → Locals → Locals
+single_one object None v locals = locals
+single_one (Local first len kind) (Some value) v locals = set_local first (converted v (kind_of value) kind) locals
+single_one (Handle first len) (Some value) v locals = locals
+single_one (Cell first len kind) (Some value) v locals = locals
+single_one (Mutex first len) (Some value) v locals = locals
+single_one (Cond first len) (Some value) v locals = locals
+single_one (Routine function) (Some value) v locals = locals
+single_one (Known name) (Some value) v locals = locals
+
+abbrev pub initialized_by : Option ScopedInitDeclarator → ℕ → Locals → Locals
+initialized_by None v locals = locals
+initialized_by (Some d) v locals = single_one d.object (single_value d.first) v locals
+
 abbrev pub station_leaves : ScopedStatement → Station → ℕ → Locals → Locals
 station_leaves s start v locals = locals
 station_leaves s (led own) v locals = locals
@@ -473,6 +527,7 @@ station_leaves s (declaring k) v locals = locals
 station_leaves s (filling k i) v locals = cleared_by (declarator_at (declared_by s) k) i locals
 station_leaves s (arbitrary k i) v locals = arbitrary_by (declarator_at (declared_by s) k) i v locals
 station_leaves s (filled k i) v locals = filled_by (declarator_at (declared_by s) k) i v locals
+station_leaves s (initialized k) v locals = initialized_by (declarator_at (declared_by s) k) v locals
 station_leaves s tested v locals = locals
 station_leaves s taken v locals = locals
 station_leaves s other v locals = locals

@@ -1,5 +1,5 @@
 -- Inner: what a statement may do from a place in it, in the terms of the traces of code.
-use Rattle.std.specs.Prelude.{ℕ, zero, suc, ◌+◌, ◌-◌, Bool, true, false, List, [], ◌∷◌, Option, Some, None}
+use Rattle.std.specs.Prelude.{ℕ, zero, suc, ◌+◌, ◌-◌, Bool, true, false, nat_lt, List, [], ◌∷◌, Option, Some, None}
 use Rattle.lz_base.specs.Words.{is_true, converted}
 use Rattle.lz_base.specs.declared.word.IntType.{IntType}
 use Rattle.lz_base.specs.declared.word.IntType.TheVariants.{Int}
@@ -14,8 +14,8 @@ use Rattle.lz_model.specs.Programs.{calls_within}
 use Rattle.lz_machine.specs.Stages as stages
 use Rattle.lz_machine.specs.Resumed.{rest_from, resumed}
 use Rattle.lz_machine.specs.Stations as at
-use Rattle.lz_machine.specs.Stations.{Station, start, led, evaluated, listing, declaring, filling, arbitrary, filled, tested, taken, other, opened, turning, bodied, changed, doing, returned, labelled, Footing, at_station, in_value, in_part, Pause, acts, reads, asks, signals, creates, calls_on, Reached, leads, pauses, fails, refuses, quits, stops, StationMove, enters_value, enters_part, moves_on, reaches}
-use Rattle.lz_machine.specs.StationMoves.{parts_of, declared_by, declarator_at, Loop, no_loop, before_turns, behind_turns, loop_of, value_of, element_value, value_at, part_at}
+use Rattle.lz_machine.specs.Stations.{Station, start, led, evaluated, listing, declaring, filling, arbitrary, filled, initialized, tested, taken, other, opened, turning, bodied, changed, doing, returned, labelled, Footing, at_station, in_value, in_part, Pause, acts, reads, asks, signals, creates, calls_on, Reached, leads, pauses, fails, refuses, quits, stops, StationMove, enters_value, enters_part, moves_on, reaches}
+use Rattle.lz_machine.specs.StationMoves.{parts_of, statement_at, declared_by, declarator_at, Loop, no_loop, before_turns, behind_turns, loop_of, value_of, element_value, single_value, value_at, part_at}
 use Rattle.lz_machine.specs.Seen.{Alike}
 
 -- ---- what is left of a statement
@@ -47,9 +47,13 @@ elements_from calls line (Cond first len) value i = halts
 elements_from calls line (Routine function) value i = halts
 elements_from calls line (Known name) value i = halts
 
--- an element that gets this value, and what follows
+-- an element in range that gets this value, and what follows
+abbrev pub gets_if : Bool → ℕ → ℕ → ℕ → Behaviour Locals Flow → Behaviour Locals Flow
+gets_if false line e v rest = halts
+gets_if true line e v rest = loc line (set_local e v) normal and_then λ _. rest
+
 abbrev pub gets : ℕ → Object → ℕ → ℕ → Behaviour Locals Flow → Behaviour Locals Flow
-gets line (Local first len kind) i v rest = loc line (set_local (first + i) v) normal and_then λ _. rest
+gets line (Local first len kind) i v rest = gets_if (nat_lt i len) line (first + i) v rest
 gets line (Handle first len) i v rest = halts
 gets line (Cell first len kind) i v rest = halts
 gets line (Mutex first len) i v rest = halts
@@ -82,6 +86,26 @@ arbitrary_filled calls ds (Some d) k i v = gets d.line d.object i v (filling_tra
 abbrev pub filled_trace : Calls → List ScopedInitDeclarator → Option ScopedInitDeclarator → ℕ → ℕ → ℕ → Behaviour Locals Flow
 filled_trace calls ds None k i v = halts
 filled_trace calls ds (Some d) k i v = gets_value d.line d.object (element_value d.first i) i v (filling_trace calls ds (Some d) k (suc i))
+
+-- an object that gets its one value, and what follows
+abbrev pub gets_single : ℕ → Object → Option ScopedExpression → ℕ → Behaviour Locals Flow → Behaviour Locals Flow
+gets_single line object None v rest = halts
+gets_single line (Local first len kind) (Some value) v rest = loc line (set_local first (converted v (kind_of value) kind)) normal and_then λ _. rest
+gets_single line (Handle first len) (Some value) v rest = halts
+gets_single line (Cell first len kind) (Some value) v rest = halts
+gets_single line (Mutex first len) (Some value) v rest = halts
+gets_single line (Cond first len) (Some value) v rest = halts
+gets_single line (Routine function) (Some value) v rest = halts
+gets_single line (Known name) (Some value) v rest = halts
+
+abbrev pub initialized_trace : Calls → List ScopedInitDeclarator → Option ScopedInitDeclarator → ℕ → ℕ → Behaviour Locals Flow
+initialized_trace calls ds None k v = halts
+initialized_trace calls ds (Some d) k v = gets_single d.line d.object (single_value d.first) v (declarators_trace calls (declarators_from ds (suc k)))
+
+-- behind a part of a block
+abbrev pub listed_part : Calls → ℕ → ScopedStatements → Option ScopedStatement → ℕ → Flow → Behaviour Locals Flow
+listed_part calls n parts None k flow = halts
+listed_part calls n parts (Some s) k flow = led_on flow (statements_trace calls n (parts_from parts (suc k)))
 
 -- behind the test of `if`
 abbrev pub tested_trace : Calls → ℕ → ScopedStatement → ℕ → Behaviour Locals Flow
@@ -152,11 +176,12 @@ station_trace calls n s start v flow = statement_trace calls n s
 station_trace calls n s (led own) v flow = ends_with own
 station_trace calls n s evaluated v flow = ends_with normal
 station_trace calls n s (listing k) v flow = statements_trace calls n (parts_from (parts_of s) k)
-station_trace calls n s (at.listed k) v flow = led_on flow (statements_trace calls n (parts_from (parts_of s) (suc k)))
+station_trace calls n s (at.listed k) v flow = listed_part calls n (parts_of s) (statement_at (parts_of s) k) k flow
 station_trace calls n s (declaring k) v flow = declarators_trace calls (declarators_from (declared_by s) k)
 station_trace calls n s (filling k i) v flow = filling_trace calls (declared_by s) (declarator_at (declared_by s) k) k i
 station_trace calls n s (arbitrary k i) v flow = arbitrary_filled calls (declared_by s) (declarator_at (declared_by s) k) k i v
 station_trace calls n s (filled k i) v flow = filled_trace calls (declared_by s) (declarator_at (declared_by s) k) k i v
+station_trace calls n s (initialized k) v flow = initialized_trace calls (declared_by s) (declarator_at (declared_by s) k) k v
 station_trace calls n s tested v flow = tested_trace calls n s v
 station_trace calls n s taken v flow = ends_with flow
 station_trace calls n s other v flow = ends_with flow

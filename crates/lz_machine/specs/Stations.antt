@@ -8,7 +8,7 @@ use Rattle.lz_machine.specs.Stages.{Point}
 
 -- Where one statement stands: before its first action; where it led on so; behind the value of an expression; before
 -- and behind a part of a block; before a declarator, before an element of its object, behind the input of that element
--- and behind its value; behind the test of `if`, and behind either branch; behind the first part of `for`; before a turn
+-- and behind its value; behind the one value of an object; behind the test of `if`, and behind either branch; behind the first part of `for`; before a turn
 -- of `while` or `for`, behind its test, its body and its step, with so many turns left; before a turn of `do`; behind
 -- the value of `return`; behind the statement of a label.
 pub data Station : Type 0 where
@@ -21,6 +21,7 @@ pub data Station : Type 0 where
   filling : (at i : ℕ) → Station
   arbitrary : (at i : ℕ) → Station
   filled : (at i : ℕ) → Station
+  initialized : (at : ℕ) → Station
   tested : Station
   taken : Station
   other : Station
