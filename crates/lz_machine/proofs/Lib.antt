@@ -5,5 +5,6 @@ pub mod MovesLemmas
 pub mod PartsLemmas
 pub mod RanksLemmas
 pub mod SeenLemmas
+pub mod StatementsLemmas
 pub mod StationsLemmas
 pub mod StepsLemmas

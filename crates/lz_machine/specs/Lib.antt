@@ -9,4 +9,5 @@ pub mod Stages
 pub mod StationMoves
 pub mod StationTraces
 pub mod Stations
+pub mod StationsHeld
 pub mod Turning

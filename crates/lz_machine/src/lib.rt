@@ -9,8 +9,12 @@ mod moves;
 mod nodes;
 mod parts;
 mod stage;
+mod station;
+mod statements;
 mod values;
 
 pub use advancing::advance;
 pub use laws::{a_turn_of_a_node, a_turn_of_a_statement, turns_end};
 pub use stage::{Came, Locals, Move, Place, Stage};
+pub use station::{Flow, Station, StationMove};
+pub use statements::station_move;
