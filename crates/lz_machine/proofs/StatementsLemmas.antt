@@ -1,16 +1,17 @@
 -- The parts of a block and the declarators of a declaration, as the items of the lists that hold them.
-use Rattle.std.proofs.Common.{◌≡◌, ℕ, zero, suc, ◌<◌, ◌≤◌, List, [], ◌∷◌, length, get_or, map, Option, Some, None, refl, sym, ◌∙◌, ap, subst, arith}
+use Rattle.std.proofs.Common.{◌≡◌, true, ℕ, zero, suc, ◌<◌, ◌≤◌, List, [], ◌∷◌, length, get_or, map, Option, Some, None, refl, sym, ◌∙◌, ap, subst, arith}
 use Rattle.lz_tree.specs.declared.scoped.ScopedExpr.{ScopedExpr}
 use Rattle.lz_tree.specs.declared.scoped.ScopedStmt.{ScopedStmt}
 use Rattle.lz_tree.specs.declared.scoped.ScopedDeclarator.{ScopedDeclarator}
 use Rattle.lz_tree.specs.ScopedTrees.{ScopedExpression, scoped_expression, scoped_expressions_of, ScopedStatement, scoped_statement, scoped_statements_of, ScopedInitDeclarator, scoped_declarator}
-use Rattle.lz_model.specs.CodeTraces.{Flow, normal}
+use Rattle.lz_model.specs.CodeTraces.{Locals, put, set_local, Flow, normal}
 use Rattle.lz_tree.specs.declared.scoped.Object.{Object}
 use Rattle.lz_machine.specs.Moves.{argument_at}
-use Rattle.lz_machine.proofs.ArgumentsLemmas.{argument_there, argument_out}
+use Rattle.lz_machine.proofs.ArgumentsLemmas.{argument_in, argument_there, argument_out}
+use Rattle.lz_machine.specs.Fits.{HasNumbers, HaveNumbers}
 use Rattle.lz_machine.specs.Stations as at
 use Rattle.lz_machine.specs.Stations.{StationMove, enters_value, enters_part, moves_on, reaches, leads, stops}
-use Rattle.lz_machine.specs.StationMoves.{statement_at, declarator_at, follow_move, list_move, listed_so, listed_move, valued_move, filled_object}
+use Rattle.lz_machine.specs.StationMoves.{statement_at, declarator_at, follow_move, list_move, listed_so, listed_move, valued_move, filled_object, cleared}
 
 -- a part at a place in range, and at any other
 statement_there : (xs : List ScopedStmt) (k : ℕ) → k < length xs → (a : ScopedStatement) × (statement_at (scoped_statements_of (map scoped_statement xs)) k ≡ Some a)
@@ -69,3 +70,41 @@ declarator_so f xs k x m h is same = same ∙ ap f (sym (declarator_in xs k x h 
 
 pub declarator_none : (f : Option ScopedInitDeclarator → StationMove) (xs : List ScopedDeclarator) (k : ℕ) → length xs ≤ k → f None ≡ f (declarator_at (map scoped_declarator xs) k)
 declarator_none f xs k h = ap f (sym (declarator_out xs k h))
+
+-- ---- the local values that a step leaves
+
+-- an object in a list has numbers
+pub declarator_has : (xs : List ScopedDeclarator) (k : ℕ) (x : ScopedDeclarator) → k < length xs → x ≡ get_or xs k x → HaveNumbers (map scoped_declarator xs) → HasNumbers x.object
+declarator_has [] k x h is all = absurd (omega (arith, h))
+declarator_has (y ∷ ys) zero x h is all = subst (λ (z : ScopedDeclarator). HasNumbers z.object) (sym is) all.0
+declarator_has (y ∷ ys) (suc k) x h is all = declarator_has ys k x (omega (arith, h)) is all.1
+
+-- what is so at a declarator is so at its place
+pub leaves_so : (f : Option ScopedInitDeclarator → Locals) (xs : List ScopedDeclarator) (k : ℕ) (x : ScopedDeclarator) (m : Locals) → k < length xs → x ≡ get_or xs k x → m ≡ f (Some (scoped_declarator x))
+    → m ≡ f (declarator_at (map scoped_declarator xs) k)
+leaves_so f xs k x m h is same = same ∙ ap f (sym (declarator_in xs k x h is))
+
+pub leaves_none : (f : Option ScopedInitDeclarator → Locals) (xs : List ScopedDeclarator) (k : ℕ) → length xs ≤ k → f None ≡ f (declarator_at (map scoped_declarator xs) k)
+leaves_none f xs k h = ap f (sym (declarator_out xs k h))
+
+-- the same at the value of an element
+pub value_so : (f : Option ScopedExpression → Locals) (xs : List ScopedExpr) (i : ℕ) (x : ScopedExpr) (m : Locals) → i < length xs → x ≡ get_or xs i x → m ≡ f (Some (scoped_expression x))
+    → m ≡ f (argument_at (scoped_expressions_of (map scoped_expression xs)) i)
+value_so f xs i x m h is same = same ∙ ap f (sym (argument_in xs i x h is))
+
+pub value_none : (f : Option ScopedExpression → Locals) (xs : List ScopedExpr) (i : ℕ) → length xs ≤ i → f None ≡ f (argument_at (scoped_expressions_of (map scoped_expression xs)) i)
+value_none f xs i h = ap f (sym (argument_out xs i h))
+
+-- a listed element keeps its local
+pub listed_stays : (xs : List ScopedExpr) (i e : ℕ) (s : Locals) → i < length xs → s ≡ cleared true (argument_at (scoped_expressions_of (map scoped_expression xs)) i) e s
+listed_stays xs i e s h = let a = argument_there xs i h in ap (λ (o : Option ScopedExpression). cleared true o e s) (sym a.1)
+
+pub unlisted_cleared : (xs : List ScopedExpr) (i e : ℕ) (s m : Locals) → length xs ≤ i → m ≡ set_local e 0 s → m ≡ cleared true (argument_at (scoped_expressions_of (map scoped_expression xs)) i) e s
+unlisted_cleared xs i e s m h is = is ∙ ap (λ (o : Option ScopedExpression). cleared true o e s) (sym (argument_out xs i h))
+
+abbrev locals_with : (ℕ → ℕ) → (ℕ → ℕ) → Locals
+locals_with f h = record { frame = f; handles = h }
+
+-- the local values, where one of the frame was set
+pub frame_set : (e v : ℕ) (f g h : ℕ → ℕ) → f ≡ put e v g → locals_with f h ≡ set_local e v (locals_with g h)
+frame_set e v f g h is = ap (λ (x : ℕ → ℕ). locals_with x h) is

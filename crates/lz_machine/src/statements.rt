@@ -109,7 +109,7 @@ fn listed_move(parts: &[ScopedStmt], at: usize, flow: Flow) -> StationMove
 }
 
 /// What a declaration declares.
-fn declarators(s: &ScopedStmt) -> &[ScopedDeclarator]
+pub fn declarators(s: &ScopedStmt) -> &[ScopedDeclarator]
     ensures { map scoped_declarator result.now ≡ spec.declared_by (scoped_statement s.now) }
 {
     match s {
