@@ -1,23 +1,23 @@
 -- What a statement makes of its station is what its code may do from there, Loc left out.
-use Rattle.std.proofs.Common.{◌≡◌, ℕ, zero, suc, ◌+◌, ◌-◌, ◌<◌, ◌≤◌, Bool, true, false, nat_lt, List, [], ◌∷◌, Option, Some, None, refl, sym, ◌∙◌, ap, subst, arith}
+use Rattle.std.proofs.Common.{◌≡◌, ℕ, zero, suc, ◌+◌, ◌-◌, Bool, true, false, nat_lt, List, [], ◌∷◌, Option, Some, None, refl, sym, ap, subst, arith}
 use Rattle.std.proofs.lemmas.Bool.Decides.{nat_tests}
 use Rattle.lz_base.specs.Words.{is_true, converted}
 use Rattle.lz_base.specs.declared.word.IntType.{IntType}
 use Rattle.lz_tree.specs.declared.scoped.Object.{Object}
 use Rattle.lz_tree.specs.declared.scoped.Object.TheVariants.{Local, Cell, Mutex, Cond, Handle, Routine, Known}
 use Rattle.lz_tree.specs.ScopedTrees.{ScopedExpression, ScopedExpressions, none, and, ScopedInitializer, nothing, single, listed, ScopedInitDeclarator, ScopedStatement, empty, eval, block, declare, when, while, do_while, for, break, continue, return, label, ScopedBranch, absent, branch, ScopedStatements, nil, cons}
-use Rattle.lz_model.specs.Behaviours.{Behaviour, ends_with, halts, stays, ◌and_then◌, ◌gives◌, picks}
+use Rattle.lz_model.specs.Behaviours.{Behaviour, ends_with, stays, ◌and_then◌, picks}
 use Rattle.lz_model.specs.CodeTraces.{Locals, set_local, set_handle, Calls, loc, inputs, kind_of, Flow, normal, breaks, continues, returns, arbitrary_trace, zeros_trace, listed_trace, no_threads_trace, object_trace, declarators_trace, led_on, expression_trace, statement_trace, branch_trace, statements_trace}
 use Rattle.lz_model.specs.CodeTraces as model
-use Rattle.lz_model.proofs.FrontsLemmas.{Fronts, FrontCalls, fronts_updates, fronts_chooses, fronts_expression, fronts_statement}
+use Rattle.lz_model.proofs.FrontsLemmas.{FrontCalls, fronts_updates, fronts_chooses, fronts_expression, fronts_statement}
 use Rattle.lz_machine.specs.Seen.{Alike}
 use Rattle.lz_machine.specs.Moves.{argument_at}
 use Rattle.lz_machine.specs.Resumed.{rest_from}
 use Rattle.lz_machine.specs.Stations as at
 use Rattle.lz_machine.specs.Stations.{Station, start, led, evaluated, listing, declaring, filling, arbitrary, filled, initialized, tested, taken, other, opened, turning, turned, bodied, changed, doing, returned, labelled, StationMove, enters_value, enters_part, moves_on, reaches}
-use Rattle.lz_machine.specs.StationMoves.{parts_of, statement_at, declared_by, declarator_at, Loop, no_loop, before_turns, behind_turns, loop_of, value_of, element_value, initializer_of, in_branch, test_of, change_of, body_of, begin_statement, follow_move, list_move, listed_so, declare_move, listed_move, fill_integer, fill_handle, fill_object, fill_move, filled_if, filled_object, valued_move, arbitrary_move, filled_move, single_value, single_move, initialized_move, test_move, tested_move, turn_move, turning_move, do_again, turned_move, step_move, behind_body, bodied_move, changed_move, do_move, doing_move, return_move, station_move, cleared, emptied, cleared_integer, cleared_object, cleared_by, kept_if, arbitrary_object, filled_one, single_one, initialized_by, arbitrary_by, filled_by, station_leaves}
-use Rattle.lz_machine.specs.StationTraces.{parts_from, declarators_from, integers_from, elements_from, gets_if, gets, gets_value, gets_single, initialized_trace, listed_part, filling_trace, arbitrary_filled, filled_trace, tested_trace, turns_left, do_turns_left, next_turn, turning_trace, turned_trace, bodied_trace, changed_trace, doing_trace, returned_trace, station_trace, with_value, with_statement, station_moved}
-use Rattle.lz_machine.proofs.SeenLemmas.{alike_same, alike_back, alike_alike, alike_behind, alike_value, alike_halts, alike_loc, alike_gives, alike_ends, alike_assoc}
+use Rattle.lz_machine.specs.StationMoves.{parts_of, statement_at, declared_by, declarator_at, Loop, no_loop, before_turns, behind_turns, loop_of, value_of, element_value, initializer_of, in_branch, test_of, change_of, body_of, begin_statement, follow_move, list_move, listed_so, declare_move, listed_move, fill_integer, fill_handle, fill_object, fill_move, filled_if, filled_object, valued_move, arbitrary_move, filled_move, single_value, single_move, initialized_move, test_move, tested_move, turn_move, turning_move, do_again, turned_move, step_move, bodied_move, changed_move, doing_move, return_move, station_move, cleared, emptied, cleared_integer, cleared_object, cleared_by, kept_if, arbitrary_object, filled_one, single_one, initialized_by, arbitrary_by, filled_by, station_leaves}
+use Rattle.lz_machine.specs.StationTraces.{parts_from, declarators_from, elements_from, gets_if, gets, gets_value, gets_single, initialized_trace, listed_part, filling_trace, arbitrary_filled, filled_trace, tested_trace, turns_left, do_turns_left, next_turn, turning_trace, turned_trace, bodied_trace, changed_trace, doing_trace, returned_trace, station_trace, with_value, with_statement, station_moved}
+use Rattle.lz_machine.proofs.SeenLemmas.{alike_same, alike_alike, alike_behind, alike_value, alike_halts, alike_loc, alike_gives, alike_ends, alike_assoc}
 
 -- ---- lists from a place on
 

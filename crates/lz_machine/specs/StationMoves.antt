@@ -5,7 +5,7 @@ use Rattle.lz_base.specs.declared.word.IntType.{IntType}
 use Rattle.lz_base.specs.declared.word.IntType.TheVariants.{Int}
 use Rattle.lz_tree.specs.declared.scoped.Object.{Object}
 use Rattle.lz_tree.specs.declared.scoped.Object.TheVariants.{Local, Cell, Mutex, Cond, Handle, Routine, Known}
-use Rattle.lz_tree.specs.ScopedTrees.{ScopedExpression, ScopedExpressions, ScopedInitializer, nothing, single, listed, ScopedInitDeclarator, ScopedStatement, empty, eval, block, declare, when, while, do_while, for, break, continue, return, label, ScopedBranch, absent, branch, ScopedStatements, nil, cons}
+use Rattle.lz_tree.specs.ScopedTrees.{ScopedExpression, ScopedInitializer, nothing, single, listed, ScopedInitDeclarator, ScopedStatement, empty, eval, block, declare, when, while, do_while, for, break, continue, return, label, ScopedBranch, absent, branch, ScopedStatements, nil, cons}
 use Rattle.lz_model.specs.CodeTraces.{Locals, set_local, set_handle, kind_of, Flow, normal, breaks, continues, returns}
 use Rattle.lz_machine.specs.Moves.{argument_at}
 use Rattle.lz_machine.specs.Stations as at

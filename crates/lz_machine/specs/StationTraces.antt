@@ -2,21 +2,17 @@
 use Rattle.std.specs.Prelude.{ℕ, zero, suc, ◌+◌, ◌-◌, Bool, true, false, nat_lt, List, [], ◌∷◌, Option, Some, None}
 use Rattle.lz_base.specs.Words.{is_true, converted}
 use Rattle.lz_base.specs.declared.word.IntType.{IntType}
-use Rattle.lz_base.specs.declared.word.IntType.TheVariants.{Int}
 use Rattle.lz_tree.specs.declared.scoped.Object.{Object}
 use Rattle.lz_tree.specs.declared.scoped.Object.TheVariants.{Local, Cell, Mutex, Cond, Handle, Routine, Known}
-use Rattle.lz_tree.specs.ScopedTrees.{ScopedExpression, ScopedExpressions, ScopedInitializer, nothing, single, listed, ScopedInitDeclarator, ScopedStatement, empty, eval, block, declare, when, while, do_while, for, break, continue, return, label, ScopedBranch, ScopedStatements, nil, cons, ScopedProgram}
+use Rattle.lz_tree.specs.ScopedTrees.{ScopedExpression, ScopedInitializer, nothing, single, listed, ScopedInitDeclarator, ScopedStatement, empty, eval, block, declare, when, while, do_while, for, break, continue, return, label, ScopedStatements, nil, cons}
 use Rattle.lz_model.specs.declared.actions.Action.TheVariants.{Check, Assume, Rd, Signal, Create}
-use Rattle.lz_model.specs.Behaviours.{Behaviour, ends_with, halts, leaves, stays, chooses, ◌and_then◌, ◌gives◌, picks}
-use Rattle.lz_model.specs.CodeTraces.{Locals, set_local, Calls, does, loc, IsWord, IsAny, inputs, passed, in_frame, kind_of, Flow, normal, breaks, continues, returns, arbitrary_trace, listed_trace, no_threads_trace, declarators_trace, led_on, turned, turns, do_turns, test_trace, change_trace, statement_trace, branch_trace, statements_trace}
-use Rattle.lz_model.specs.CodeTraces as model
-use Rattle.lz_model.specs.Programs.{calls_within}
+use Rattle.lz_model.specs.Behaviours.{Behaviour, ends_with, halts, leaves, stays, chooses, ◌and_then◌, picks}
+use Rattle.lz_model.specs.CodeTraces.{Locals, set_local, Calls, does, loc, IsWord, IsAny, inputs, passed, in_frame, kind_of, Flow, normal, returns, arbitrary_trace, listed_trace, no_threads_trace, declarators_trace, led_on, turned, turns, do_turns, test_trace, change_trace, statement_trace, branch_trace, statements_trace}
 use Rattle.lz_machine.specs.Stages as stages
 use Rattle.lz_machine.specs.Resumed.{rest_from, resumed}
 use Rattle.lz_machine.specs.Stations as at
 use Rattle.lz_machine.specs.Stations.{Station, start, led, evaluated, listing, declaring, filling, arbitrary, filled, initialized, tested, taken, other, opened, turning, bodied, changed, doing, returned, labelled, Footing, at_station, in_value, in_part, Pause, acts, reads, asks, signals, creates, calls_on, Reached, leads, pauses, fails, refuses, quits, stops, StationMove, enters_value, enters_part, moves_on, reaches}
 use Rattle.lz_machine.specs.StationMoves.{parts_of, statement_at, declared_by, declarator_at, Loop, no_loop, before_turns, behind_turns, loop_of, value_of, element_value, single_value, value_at, part_at}
-use Rattle.lz_machine.specs.Seen.{Alike}
 
 -- ---- what is left of a statement
 

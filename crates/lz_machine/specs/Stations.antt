@@ -1,5 +1,5 @@
 -- Inner: where a statement stands and how far it came, without pointers and capacities.
-use Rattle.std.specs.Prelude.{ℕ, zero, suc, List, [], ◌∷◌, Option, Some, None}
+use Rattle.std.specs.Prelude.{ℕ, List}
 use Rattle.lz_base.specs.declared.word.BreakKind.{BreakKind}
 use Rattle.lz_base.specs.declared.word.IntType.{IntType}
 use Rattle.lz_model.specs.declared.actions.Action.{Action}

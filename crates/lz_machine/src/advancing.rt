@@ -55,7 +55,10 @@ fn moved(
             Ok(old_move(e, element, value))
         }
         Stage::Valued { at } => Ok(valued_move(e, at, value)),
-        Stage::Writing { element, value: own } => {
+        Stage::Writing {
+            element,
+            value: own,
+        } => {
             writing_writes(e, element, own, locals)?;
             Ok(writing_move(e, element, own))
         }
@@ -66,14 +69,24 @@ fn moved(
         Stage::Other => Ok(branch_move(false, e, value)),
         Stage::Calling { values } => calling_move(alloc, called(e), arguments(e), values),
         Stage::Argument { values } => argument_move(called(e), values, value),
-        Stage::Passing { objects, at } => Ok(passing_move(alloc, called(e), arguments(e), objects, at)),
+        Stage::Passing { objects, at } => Ok(passing_move(
+            alloc,
+            called(e),
+            arguments(e),
+            objects,
+            at,
+        )),
         Stage::Handed { objects, at } => handed_move(called(e), arguments(e), objects, at, value),
-        Stage::Arguing { objects, values, at } => {
-            Ok(arguing_move(called(e), arguments(e), objects, values, at, locals))
-        }
-        Stage::Argued { objects, values, at } => {
-            argued_move(called(e), arguments(e), objects, values, at, value)
-        }
+        Stage::Arguing {
+            objects,
+            values,
+            at,
+        } => { Ok(arguing_move(called(e), arguments(e), objects, values, at, locals)) }
+        Stage::Argued {
+            objects,
+            values,
+            at,
+        } => { argued_move(called(e), arguments(e), objects, values, at, value) }
         Stage::Woken { cond, mutex } => Ok(woken_move(called(e), cond, mutex)),
         Stage::Made { handle } => {
             made_writes(called(e), handle, value, locals)?;
@@ -115,9 +128,17 @@ fn came_within(alloc: Global, stage: Stage, came: Came) -> Result<Came, Memory>
 {
     match came {
         Came::Done { value } => Ok(Came::Done { value }),
-        Came::Acts { action, line, place } => {
+        Came::Acts {
+            action,
+            line,
+            place,
+        } => {
             let place = within(alloc, stage, place)?;
-            Ok(Came::Acts { action, line, place })
+            Ok(Came::Acts {
+                action,
+                line,
+                place,
+            })
         }
         Came::Reads { cell, line, place } => {
             let place = within(alloc, stage, place)?;
@@ -131,13 +152,33 @@ fn came_within(alloc: Global, stage: Stage, came: Came) -> Result<Came, Memory>
             let place = within(alloc, stage, place)?;
             Ok(Came::Signals { cond, line, place })
         }
-        Came::Creates { start, value, line, place } => {
+        Came::Creates {
+            start,
+            value,
+            line,
+            place,
+        } => {
             let place = within(alloc, stage, place)?;
-            Ok(Came::Creates { start, value, line, place })
+            Ok(Came::Creates {
+                start,
+                value,
+                line,
+                place,
+            })
         }
-        Came::Calls { function, kinds, values, place } => {
+        Came::Calls {
+            function,
+            kinds,
+            values,
+            place,
+        } => {
             let place = within(alloc, stage, place)?;
-            Ok(Came::Calls { function, kinds, values, place })
+            Ok(Came::Calls {
+                function,
+                kinds,
+                values,
+                place,
+            })
         }
         Came::Fails { kind, line } => Ok(Came::Fails { kind, line }),
         Came::Refuses { line } => Ok(Came::Refuses { line }),
@@ -191,16 +232,20 @@ fn part(
 
 /// Enters the part behind which a node comes to this stage.
 #[cycle(advance)]
-fn enter(
-    alloc: Global,
-    e: &ScopedExpr,
-    stage: Stage,
-    locals: &mut Locals,
-) -> Result<Turned, Memory>
+fn enter(alloc: Global, e: &ScopedExpr, stage: Stage, locals: &mut Locals) -> Result<Turned, Memory>
     requires { IsFit (scoped_expression e.now) }
     ensures { IfOk result (λ t. Entered (scoped_expression e.now) (stage_of stage) (locals_of locals.old) (turned_of t) (locals_of locals.new)) }
 {
-    let came = part(alloc, e, &stage, Place::At { stage: Stage::Start }, 0, locals)?;
+    let came = part(
+        alloc,
+        e,
+        &stage,
+        Place::At {
+            stage: Stage::Start,
+        },
+        0,
+        locals,
+    )?;
     let turned = behind_part(alloc, stage, came)?;
     Ok(turned)
 }
@@ -220,7 +265,13 @@ fn turn(
 {
     match moved(alloc, e, stage, value, locals)? {
         Move::Comes { came } => Ok(Turned::Stopped { came }),
-        Move::Goes { stage: next, value: held } => Ok(Turned::Again { stage: next, value: held }),
+        Move::Goes {
+            stage: next,
+            value: held,
+        } => Ok(Turned::Again {
+            stage: next,
+            value: held,
+        }),
         Move::Enters { stage: next } => {
             let turned = enter(alloc, e, next, locals)?;
             Ok(turned)
@@ -244,7 +295,10 @@ fn go_on(
     let mut held = value;
     loop {
         match turn(alloc, e, now, held, locals)? {
-            Turned::Again { stage: next, value: given } => {
+            Turned::Again {
+                stage: next,
+                value: given,
+            } => {
                 now = next;
                 held = given;
             }

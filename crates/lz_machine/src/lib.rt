@@ -9,14 +9,14 @@ mod moves;
 mod nodes;
 mod parts;
 mod stage;
-mod station;
 mod statements;
+mod station;
 mod values;
 mod writes;
 
 pub use advancing::advance;
 pub use laws::{a_turn_of_a_node, a_turn_of_a_statement, turns_end};
 pub use stage::{Came, Locals, Move, Place, Stage};
-pub use station::{Flow, Station, StationMove};
 pub use statements::station_move;
+pub use station::{Flow, Station, StationMove};
 pub use writes::station_writes;

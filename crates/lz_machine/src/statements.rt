@@ -28,7 +28,9 @@ fn begin_return(value: &Option<ScopedExpr>) -> StationMove
                 value: 0,
             },
         },
-        Some(_) => StationMove::EntersValue { station: Station::Returned },
+        Some(_) => StationMove::EntersValue {
+            station: Station::Returned,
+        },
     }
 }
 
@@ -38,17 +40,35 @@ fn begin_statement(s: &ScopedStmt, bound: u32) -> StationMove
 {
     match s {
         ScopedStmt::Empty => StationMove::Leads { flow: Flow::Normal },
-        ScopedStmt::Eval { .. } => StationMove::EntersValue { station: Station::Evaluated },
-        ScopedStmt::Block { .. } => StationMove::MovesOn { station: Station::Listing { at: 0 } },
-        ScopedStmt::Declare { .. } => StationMove::MovesOn { station: Station::Declaring { at: 0 } },
-        ScopedStmt::If { .. } => StationMove::EntersValue { station: Station::Tested },
-        ScopedStmt::While { .. } => StationMove::MovesOn { station: Station::Turning { left: bound } },
-        ScopedStmt::Do { .. } => StationMove::MovesOn { station: Station::Doing { left: bound } },
-        ScopedStmt::For { .. } => StationMove::EntersPart { station: Station::Opened },
+        ScopedStmt::Eval { .. } => StationMove::EntersValue {
+            station: Station::Evaluated,
+        },
+        ScopedStmt::Block { .. } => StationMove::MovesOn {
+            station: Station::Listing { at: 0 },
+        },
+        ScopedStmt::Declare { .. } => StationMove::MovesOn {
+            station: Station::Declaring { at: 0 },
+        },
+        ScopedStmt::If { .. } => StationMove::EntersValue {
+            station: Station::Tested,
+        },
+        ScopedStmt::While { .. } => StationMove::MovesOn {
+            station: Station::Turning { left: bound },
+        },
+        ScopedStmt::Do { .. } => StationMove::MovesOn {
+            station: Station::Doing { left: bound },
+        },
+        ScopedStmt::For { .. } => StationMove::EntersPart {
+            station: Station::Opened,
+        },
         ScopedStmt::Break { .. } => StationMove::Leads { flow: Flow::Breaks },
-        ScopedStmt::Continue { .. } => StationMove::Leads { flow: Flow::Continues },
+        ScopedStmt::Continue { .. } => StationMove::Leads {
+            flow: Flow::Continues,
+        },
         ScopedStmt::Return { value, .. } => begin_return(value),
-        ScopedStmt::Label { .. } => StationMove::EntersPart { station: Station::Labelled },
+        ScopedStmt::Label { .. } => StationMove::EntersPart {
+            station: Station::Labelled,
+        },
     }
 }
 
@@ -59,7 +79,9 @@ fn follow_move(flow: Flow, next: Station) -> StationMove
     match flow {
         Flow::Normal => StationMove::MovesOn { station: next },
         Flow::Breaks => StationMove::Leads { flow: Flow::Breaks },
-        Flow::Continues => StationMove::Leads { flow: Flow::Continues },
+        Flow::Continues => StationMove::Leads {
+            flow: Flow::Continues,
+        },
         Flow::Returns { kind, value } => StationMove::Leads {
             flow: Flow::Returns { kind, value },
         },
@@ -91,7 +113,9 @@ fn list_move(parts: &[ScopedStmt], at: usize) -> StationMove
     ensures { station_move_of result ≡ spec.list_move (spec.statement_at (scoped_statements_of (map scoped_statement parts.now)) at) at }
 {
     if at < parts.len() {
-        StationMove::EntersPart { station: Station::Listed { at } }
+        StationMove::EntersPart {
+            station: Station::Listed { at },
+        }
     } else {
         StationMove::Leads { flow: Flow::Normal }
     }
@@ -133,9 +157,15 @@ fn integer_move(first: &ScopedFirst, at: usize) -> StationMove
     ensures { station_move_of result ≡ spec.integer_move (scoped_initializer first.now) at }
 {
     match first {
-        ScopedFirst::Nothing => StationMove::MovesOn { station: Station::Filling { at, element: 0 } },
-        ScopedFirst::Value { .. } => StationMove::EntersValue { station: Station::Initialized { at } },
-        ScopedFirst::Listed { .. } => StationMove::MovesOn { station: Station::Filling { at, element: 0 } },
+        ScopedFirst::Nothing => StationMove::MovesOn {
+            station: Station::Filling { at, element: 0 },
+        },
+        ScopedFirst::Value { .. } => StationMove::EntersValue {
+            station: Station::Initialized { at },
+        },
+        ScopedFirst::Listed { .. } => StationMove::MovesOn {
+            station: Station::Filling { at, element: 0 },
+        },
     }
 }
 
@@ -145,7 +175,9 @@ fn object_move(object: Object, first: &ScopedFirst, at: usize) -> StationMove
 {
     match object {
         Object::Local { .. } => integer_move(first, at),
-        Object::Handle { .. } => StationMove::MovesOn { station: Station::Filling { at, element: 0 } },
+        Object::Handle { .. } => StationMove::MovesOn {
+            station: Station::Filling { at, element: 0 },
+        },
         Object::Cell { .. }
         | Object::Mutex { .. }
         | Object::Cond { .. }
@@ -172,9 +204,16 @@ fn listed_element(values: &[ScopedExpr], at: usize, element: u32) -> StationMove
     ensures { station_move_of result ≡ spec.listed_move (argument_at (scoped_expressions_of (map scoped_expression values.now)) element) at element }
 {
     if (element as usize) < values.len() {
-        StationMove::EntersValue { station: Station::Filled { at, element } }
+        StationMove::EntersValue {
+            station: Station::Filled { at, element },
+        }
     } else {
-        StationMove::MovesOn { station: Station::Filling { at, element: element + 1 } }
+        StationMove::MovesOn {
+            station: Station::Filling {
+                at,
+                element: element + 1,
+            },
+        }
     }
 }
 
@@ -189,20 +228,30 @@ fn element_move(kind: IntType, first: &ScopedFirst, at: usize, element: u32) -> 
             kind,
             station: Station::Arbitrary { at, element },
         },
-        ScopedFirst::Value { .. } => StationMove::MovesOn { station: Station::Declaring { at: at + 1 } },
+        ScopedFirst::Value { .. } => StationMove::MovesOn {
+            station: Station::Declaring { at: at + 1 },
+        },
         ScopedFirst::Listed { values } => listed_element(values, at, element),
     }
 }
 
 /// An element of an integer object, behind whose last the next declarator comes.
-fn fill_integer(len: u32, kind: IntType, first: &ScopedFirst, at: usize, element: u32) -> StationMove
+fn fill_integer(
+    len: u32,
+    kind: IntType,
+    first: &ScopedFirst,
+    at: usize,
+    element: u32,
+) -> StationMove
     requires next { at < 18446744073709551615 }
     ensures { station_move_of result ≡ spec.fill_integer (nat_lt element len) kind (scoped_initializer first.now) at element }
 {
     if element < len {
         element_move(kind, first, at, element)
     } else {
-        StationMove::MovesOn { station: Station::Declaring { at: at + 1 } }
+        StationMove::MovesOn {
+            station: Station::Declaring { at: at + 1 },
+        }
     }
 }
 
@@ -212,9 +261,16 @@ fn fill_handle(len: u32, at: usize, element: u32) -> StationMove
     ensures { station_move_of result ≡ spec.fill_handle (nat_lt element len) at element }
 {
     if element < len {
-        StationMove::MovesOn { station: Station::Filling { at, element: element + 1 } }
+        StationMove::MovesOn {
+            station: Station::Filling {
+                at,
+                element: element + 1,
+            },
+        }
     } else {
-        StationMove::MovesOn { station: Station::Declaring { at: at + 1 } }
+        StationMove::MovesOn {
+            station: Station::Declaring { at: at + 1 },
+        }
     }
 }
 
@@ -253,7 +309,12 @@ fn filled_object(object: Object, at: usize, element: u32) -> StationMove
     match object {
         Object::Local { len, .. } => {
             if element < len {
-                StationMove::MovesOn { station: Station::Filling { at, element: element + 1 } }
+                StationMove::MovesOn {
+                    station: Station::Filling {
+                        at,
+                        element: element + 1,
+                    },
+                }
             } else {
                 StationMove::Stops
             }
@@ -318,7 +379,9 @@ fn single_object(object: Object, at: usize) -> StationMove
     ensures { station_move_of result ≡ spec.single_object object at }
 {
     match object {
-        Object::Local { .. } => StationMove::MovesOn { station: Station::Declaring { at: at + 1 } },
+        Object::Local { .. } => StationMove::MovesOn {
+            station: Station::Declaring { at: at + 1 },
+        },
         Object::Cell { .. }
         | Object::Mutex { .. }
         | Object::Cond { .. }
@@ -358,11 +421,15 @@ fn tested_move(s: &ScopedStmt, value: u32) -> StationMove
     match s {
         ScopedStmt::If { no, .. } => {
             if holds(value) {
-                return StationMove::EntersPart { station: Station::Taken };
+                return StationMove::EntersPart {
+                    station: Station::Taken,
+                };
             }
             match no {
                 None => StationMove::Leads { flow: Flow::Normal },
-                Some(_) => StationMove::EntersPart { station: Station::Other },
+                Some(_) => StationMove::EntersPart {
+                    station: Station::Other,
+                },
             }
         }
         ScopedStmt::Empty
@@ -389,7 +456,9 @@ fn turn_move(again: bool, left: u32) -> StationMove
     if left == 0 {
         StationMove::Stops
     } else {
-        StationMove::EntersPart { station: Station::Bodied { left: left - 1 } }
+        StationMove::EntersPart {
+            station: Station::Bodied { left: left - 1 },
+        }
     }
 }
 
@@ -399,7 +468,9 @@ fn ask_move(test: &Option<ScopedExpr>, left: u32) -> StationMove
 {
     match test {
         None => turn_move(true, left),
-        Some(_) => StationMove::EntersValue { station: Station::Turned { left } },
+        Some(_) => StationMove::EntersValue {
+            station: Station::Turned { left },
+        },
     }
 }
 
@@ -408,7 +479,9 @@ fn turning_move(s: &ScopedStmt, left: u32) -> StationMove
     ensures { station_move_of result ≡ spec.turning_move (spec.loop_of (scoped_statement s.now)) left }
 {
     match s {
-        ScopedStmt::While { .. } => StationMove::EntersValue { station: Station::Turned { left } },
+        ScopedStmt::While { .. } => StationMove::EntersValue {
+            station: Station::Turned { left },
+        },
         ScopedStmt::For { test, .. } => ask_move(test, left),
         ScopedStmt::Empty
         | ScopedStmt::Eval { .. }
@@ -428,7 +501,9 @@ fn do_again(again: bool, left: u32) -> StationMove
     ensures { station_move_of result ≡ spec.do_again again left }
 {
     if again {
-        StationMove::MovesOn { station: Station::Doing { left } }
+        StationMove::MovesOn {
+            station: Station::Doing { left },
+        }
     } else {
         StationMove::Leads { flow: Flow::Normal }
     }
@@ -469,8 +544,12 @@ fn step_move(step: &Option<ScopedExpr>, left: u32) -> StationMove
     ensures { station_move_of result ≡ spec.step_move (option_map scoped_expression step.now) left }
 {
     match step {
-        None => StationMove::MovesOn { station: Station::Turning { left } },
-        Some(_) => StationMove::EntersValue { station: Station::Changed { left } },
+        None => StationMove::MovesOn {
+            station: Station::Turning { left },
+        },
+        Some(_) => StationMove::EntersValue {
+            station: Station::Changed { left },
+        },
     }
 }
 
@@ -492,9 +571,19 @@ fn bodied_move(s: &ScopedStmt, left: u32, flow: Flow) -> StationMove
     ensures { station_move_of result ≡ spec.bodied_move (spec.loop_of (scoped_statement s.now)) left (flow_of flow) }
 {
     match s {
-        ScopedStmt::While { .. } => behind_body(flow, StationMove::MovesOn { station: Station::Turning { left } }),
+        ScopedStmt::While { .. } => behind_body(
+            flow,
+            StationMove::MovesOn {
+                station: Station::Turning { left },
+            },
+        ),
         ScopedStmt::For { step, .. } => behind_body(flow, step_move(step, left)),
-        ScopedStmt::Do { .. } => behind_body(flow, StationMove::EntersValue { station: Station::Turned { left } }),
+        ScopedStmt::Do { .. } => behind_body(
+            flow,
+            StationMove::EntersValue {
+                station: Station::Turned { left },
+            },
+        ),
         ScopedStmt::Empty
         | ScopedStmt::Eval { .. }
         | ScopedStmt::Block { .. }
@@ -512,7 +601,9 @@ fn changed_move(s: &ScopedStmt, left: u32) -> StationMove
     ensures { station_move_of result ≡ spec.changed_move (spec.loop_of (scoped_statement s.now)) left }
 {
     match s {
-        ScopedStmt::While { .. } | ScopedStmt::For { .. } => StationMove::MovesOn { station: Station::Turning { left } },
+        ScopedStmt::While { .. } | ScopedStmt::For { .. } => StationMove::MovesOn {
+            station: Station::Turning { left },
+        },
         ScopedStmt::Empty
         | ScopedStmt::Eval { .. }
         | ScopedStmt::Block { .. }
@@ -533,7 +624,9 @@ fn do_move(left: u32) -> StationMove
     if left == 0 {
         StationMove::Stops
     } else {
-        StationMove::EntersPart { station: Station::Bodied { left: left - 1 } }
+        StationMove::EntersPart {
+            station: Station::Bodied { left: left - 1 },
+        }
     }
 }
 
@@ -601,7 +694,13 @@ fn return_move(s: &ScopedStmt, v: u32) -> StationMove
 
 /// What a statement does at a station, where a loop has at most `bound` turns, behind an expression with this value, or
 /// behind a statement that led on so.
-pub fn station_move(s: &ScopedStmt, station: Station, value: u32, flow: Flow, bound: u32) -> StationMove
+pub fn station_move(
+    s: &ScopedStmt,
+    station: Station,
+    value: u32,
+    flow: Flow,
+    bound: u32,
+) -> StationMove
     ensures { station_move_of result ≡ spec.station_move bound (scoped_statement s.now) (station_of station) value (flow_of flow) }
 {
     match station {

@@ -16,7 +16,12 @@ use lz_base::Memory;
 use lz_tree::{Object, ScopedDeclarator, ScopedExpr, ScopedFirst, ScopedStmt};
 
 /// Clears a local for which a list has no value.
-fn clear_unlisted(values: &[ScopedExpr], local: u32, element: u32, locals: &mut Locals) -> Result<(), Memory>
+fn clear_unlisted(
+    values: &[ScopedExpr],
+    local: u32,
+    element: u32,
+    locals: &mut Locals,
+) -> Result<(), Memory>
     ensures { IfOk result (λ _. locals_of locals.new ≡ spec.cleared true (argument_at (scoped_expressions_of (map scoped_expression values.now)) element) local (locals_of locals.old)) }
 {
     if (element as usize) < values.len() {
@@ -27,7 +32,13 @@ fn clear_unlisted(values: &[ScopedExpr], local: u32, element: u32, locals: &mut 
 }
 
 /// Clears an element of an integer object where its list has no value for it.
-fn clear_integer(first: u32, len: u32, init: &ScopedFirst, element: u32, locals: &mut Locals) -> Result<(), Memory>
+fn clear_integer(
+    first: u32,
+    len: u32,
+    init: &ScopedFirst,
+    element: u32,
+    locals: &mut Locals,
+) -> Result<(), Memory>
     requires { first + len ≤ value_bound }
     ensures { IfOk result (λ _. locals_of locals.new ≡ spec.cleared_integer (nat_lt element len) (scoped_initializer init.now) (first + element) element (locals_of locals.old)) }
 {
@@ -56,7 +67,12 @@ fn clear_handle(first: u32, len: u32, element: u32, locals: &mut Locals) -> Resu
 }
 
 /// Clears an element of an object that begins as 0.
-fn clear_object(object: Object, init: &ScopedFirst, element: u32, locals: &mut Locals) -> Result<(), Memory>
+fn clear_object(
+    object: Object,
+    init: &ScopedFirst,
+    element: u32,
+    locals: &mut Locals,
+) -> Result<(), Memory>
     requires { HasNumbers object }
     ensures { IfOk result (λ _. locals_of locals.new ≡ spec.cleared_object object (scoped_initializer init.now) element (locals_of locals.old)) }
 {
@@ -72,7 +88,12 @@ fn clear_object(object: Object, init: &ScopedFirst, element: u32, locals: &mut L
 }
 
 /// Clears an element of the object of a declarator.
-fn clear_element(declarators: &[ScopedDeclarator], at: usize, element: u32, locals: &mut Locals) -> Result<(), Memory>
+fn clear_element(
+    declarators: &[ScopedDeclarator],
+    at: usize,
+    element: u32,
+    locals: &mut Locals,
+) -> Result<(), Memory>
     requires { HaveNumbers (map scoped_declarator declarators.now) }
     ensures { IfOk result (λ _. locals_of locals.new ≡ spec.cleared_by (spec.declarator_at (map scoped_declarator declarators.now) at) element (locals_of locals.old)) }
 {
@@ -107,14 +128,24 @@ fn keep(object: Object, element: u32, value: u32, locals: &mut Locals) -> Result
 }
 
 /// Gives an element in range this value, as its object takes it.
-fn keep_converted(object: Object, e: &ScopedExpr, element: u32, value: u32, locals: &mut Locals) -> Result<(), Memory>
+fn keep_converted(
+    object: Object,
+    e: &ScopedExpr,
+    element: u32,
+    value: u32,
+    locals: &mut Locals,
+) -> Result<(), Memory>
     requires { HasNumbers object }
     ensures { IfOk result (λ _. locals_of locals.new ≡ spec.filled_one object (Some (scoped_expression e.now)) element value (locals_of locals.old)) }
 {
     match object {
         Object::Local { first, len, kind } => {
             if element < len {
-                set_word(&mut locals.frame, first + element, converted(value, kind_of(e), kind))
+                set_word(
+                    &mut locals.frame,
+                    first + element,
+                    converted(value, kind_of(e), kind),
+                )
             } else {
                 Ok(())
             }
@@ -129,7 +160,13 @@ fn keep_converted(object: Object, e: &ScopedExpr, element: u32, value: u32, loca
 }
 
 /// Gives an element the value of its place in a list.
-fn fill_listed(object: Object, values: &[ScopedExpr], element: u32, value: u32, locals: &mut Locals) -> Result<(), Memory>
+fn fill_listed(
+    object: Object,
+    values: &[ScopedExpr],
+    element: u32,
+    value: u32,
+    locals: &mut Locals,
+) -> Result<(), Memory>
     requires { HasNumbers object }
     ensures { IfOk result (λ _. locals_of locals.new ≡ spec.filled_one object (argument_at (scoped_expressions_of (map scoped_expression values.now)) element) element value (locals_of locals.old)) }
 {
@@ -141,7 +178,13 @@ fn fill_listed(object: Object, values: &[ScopedExpr], element: u32, value: u32, 
 }
 
 /// Gives an element its value.
-fn fill_object(object: Object, init: &ScopedFirst, element: u32, value: u32, locals: &mut Locals) -> Result<(), Memory>
+fn fill_object(
+    object: Object,
+    init: &ScopedFirst,
+    element: u32,
+    value: u32,
+    locals: &mut Locals,
+) -> Result<(), Memory>
     requires { HasNumbers object }
     ensures { IfOk result (λ _. locals_of locals.new ≡ spec.filled_one object (spec.element_value (scoped_initializer init.now) element) element value (locals_of locals.old)) }
 {
@@ -169,7 +212,12 @@ fn initialize(object: Object, e: &ScopedExpr, value: u32, locals: &mut Locals) -
 }
 
 /// Gives an object its one value, where it has one.
-fn initialize_object(object: Object, init: &ScopedFirst, value: u32, locals: &mut Locals) -> Result<(), Memory>
+fn initialize_object(
+    object: Object,
+    init: &ScopedFirst,
+    value: u32,
+    locals: &mut Locals,
+) -> Result<(), Memory>
     ensures { IfOk result (λ _. locals_of locals.new ≡ spec.single_one object (spec.single_value (scoped_initializer init.now)) value (locals_of locals.old)) }
 {
     match init {
@@ -179,7 +227,13 @@ fn initialize_object(object: Object, init: &ScopedFirst, value: u32, locals: &mu
 }
 
 /// Gives an element of the object of a declarator its input.
-fn keep_element(declarators: &[ScopedDeclarator], at: usize, element: u32, value: u32, locals: &mut Locals) -> Result<(), Memory>
+fn keep_element(
+    declarators: &[ScopedDeclarator],
+    at: usize,
+    element: u32,
+    value: u32,
+    locals: &mut Locals,
+) -> Result<(), Memory>
     requires { HaveNumbers (map scoped_declarator declarators.now) }
     ensures { IfOk result (λ _. locals_of locals.new ≡ spec.arbitrary_by (spec.declarator_at (map scoped_declarator declarators.now) at) element value (locals_of locals.old)) }
 {
@@ -192,7 +246,13 @@ fn keep_element(declarators: &[ScopedDeclarator], at: usize, element: u32, value
 }
 
 /// Gives an element of the object of a declarator its value.
-fn fill_element(declarators: &[ScopedDeclarator], at: usize, element: u32, value: u32, locals: &mut Locals) -> Result<(), Memory>
+fn fill_element(
+    declarators: &[ScopedDeclarator],
+    at: usize,
+    element: u32,
+    value: u32,
+    locals: &mut Locals,
+) -> Result<(), Memory>
     requires { HaveNumbers (map scoped_declarator declarators.now) }
     ensures { IfOk result (λ _. locals_of locals.new ≡ spec.filled_by (spec.declarator_at (map scoped_declarator declarators.now) at) element value (locals_of locals.old)) }
 {
@@ -205,7 +265,12 @@ fn fill_element(declarators: &[ScopedDeclarator], at: usize, element: u32, value
 }
 
 /// Gives the object of a declarator its one value.
-fn initialize_element(declarators: &[ScopedDeclarator], at: usize, value: u32, locals: &mut Locals) -> Result<(), Memory>
+fn initialize_element(
+    declarators: &[ScopedDeclarator],
+    at: usize,
+    value: u32,
+    locals: &mut Locals,
+) -> Result<(), Memory>
     ensures { IfOk result (λ _. locals_of locals.new ≡ spec.initialized_by (spec.declarator_at (map scoped_declarator declarators.now) at) value (locals_of locals.old)) }
 {
     if at < declarators.len() {
@@ -218,13 +283,24 @@ fn initialize_element(declarators: &[ScopedDeclarator], at: usize, value: u32, l
 
 /// What the step of a statement at a station writes to the local values, behind an expression or an input with this
 /// value.
-pub fn station_writes(s: &ScopedStmt, station: Station, value: u32, locals: &mut Locals) -> Result<(), Memory>
+pub fn station_writes(
+    s: &ScopedStmt,
+    station: Station,
+    value: u32,
+    locals: &mut Locals,
+) -> Result<(), Memory>
     requires { HaveNumbers (declared_by (scoped_statement s.now)) }
     ensures { IfOk result (λ _. locals_of locals.new ≡ spec.station_leaves (scoped_statement s.now) (station_of station) value (locals_of locals.old)) }
 {
     match station {
         Station::Filling { at, element } => clear_element(declarators(s), at, element, locals),
-        Station::Arbitrary { at, element } => keep_element(declarators(s), at, element, value, locals),
+        Station::Arbitrary { at, element } => keep_element(
+            declarators(s),
+            at,
+            element,
+            value,
+            locals,
+        ),
         Station::Filled { at, element } => fill_element(declarators(s), at, element, value, locals),
         Station::Initialized { at } => initialize_element(declarators(s), at, value, locals),
         Station::Start

@@ -1,4 +1,3 @@
-use Rattle.std.proofs.Common.{◌≡◌}
 use Rattle.lz_machine.specs.StationMoves.{arbitrary_move}
 use Rattle.lz_machine.proofs.StatementsLemmas.{declarator_so, declarator_none}
 use Rattle.lz_machine.proofs.statements.arbitrary_move.Goals as goal

@@ -1,4 +1,3 @@
-use Rattle.std.proofs.Common.{◌≡◌}
 use Rattle.lz_machine.specs.StationMoves.{filled_move}
 use Rattle.lz_machine.proofs.StatementsLemmas.{declarator_so, declarator_none}
 use Rattle.lz_machine.proofs.statements.filled_move.Goals as goal

@@ -1,4 +1,3 @@
-use Rattle.std.proofs.Common.{◌≡◌}
 use Rattle.lz_machine.proofs.StatementsLemmas.{list_in, list_out}
 use Rattle.lz_machine.proofs.statements.list_move.Goals as goal
 

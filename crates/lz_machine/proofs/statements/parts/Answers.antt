@@ -1,4 +1,4 @@
-use Rattle.std.proofs.Common.{◌≡◌, ◌∙◌, ap, sym, map, List}
+use Rattle.std.proofs.Common.{◌∙◌, ap, sym, map, List}
 use Rattle.lz_tree.specs.declared.scoped.ScopedStmt.{ScopedStmt}
 use Rattle.lz_tree.specs.ScopedTrees.{scoped_statement, scoped_statements_of}
 use Rattle.lz_tree.proofs.ScopedTreesLemmas.{is_scoped_block}

@@ -1,4 +1,3 @@
-use Rattle.std.proofs.Common.{◌≡◌}
 use Rattle.lz_machine.proofs.StatementsLemmas.{value_in, value_out}
 use Rattle.lz_machine.proofs.statements.value_move.Goals as goal
 

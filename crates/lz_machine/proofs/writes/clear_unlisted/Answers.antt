@@ -1,4 +1,3 @@
-use Rattle.std.proofs.Common.{◌≡◌}
 use Rattle.lz_machine.specs.Stages.{locals_of}
 use Rattle.lz_machine.proofs.StatementsLemmas.{listed_stays, unlisted_cleared, frame_set}
 use Rattle.lz_machine.proofs.writes.clear_unlisted.Goals as goal

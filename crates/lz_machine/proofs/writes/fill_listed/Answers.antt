@@ -1,4 +1,3 @@
-use Rattle.std.proofs.Common.{◌≡◌}
 use Rattle.lz_machine.specs.Stages.{locals_of}
 use Rattle.lz_machine.specs.StationMoves.{filled_one}
 use Rattle.lz_machine.proofs.StatementsLemmas.{value_so, value_none}

@@ -1,4 +1,3 @@
-use Rattle.std.proofs.Common.{◌≡◌}
 use Rattle.lz_machine.specs.Stages.{locals_of}
 use Rattle.lz_machine.specs.StationMoves.{initialized_by}
 use Rattle.lz_machine.proofs.StatementsLemmas.{leaves_so, leaves_none}
