@@ -1,5 +1,6 @@
-//! The resumable thread: code that stops between any two of its actions. What is here: the steps of the nodes of
-//! expressions, stage by stage, each proved to lead to what is left of the node's traces, Loc left out.
+//! The resumable thread: code that stops between any two of its actions. What is here: `advance`, by which an expression
+//! goes on from any place in it up to its next action, and the steps of statements, each proved to lead to what is left
+//! of the traces, Loc left out.
 #![tactic(auto)]
 
 mod advancing;
