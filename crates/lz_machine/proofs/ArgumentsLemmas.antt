@@ -1,8 +1,8 @@
 -- The arguments of a call, as the items of the list that holds them.
-use Rattle.std.proofs.Common.{◌≡◌, ℕ, zero, suc, ◌+◌, ◌<◌, ◌≤◌, Bool, List, [], ◌∷◌, ◌++◌, length, get_or, map, take, drop, Option, Some, None, refl, sym, ◌∙◌, ap, subst, arith}
+use Rattle.std.proofs.Common.{◌≡◌, ℕ, zero, suc, ◌+◌, ◌<◌, ◌≤◌, Bool, List, [], ◌∷◌, ◌++◌, length, get_or, map, take, Option, Some, None, refl, sym, ◌∙◌, ap, subst, arith}
 use Rattle.lz_base.specs.declared.word.IntType.{IntType}
 use Rattle.lz_tree.specs.declared.scoped.ScopedExpr.{ScopedExpr}
-use Rattle.lz_tree.specs.ScopedTrees.{ScopedExpression, ScopedExpressions, none, and, scoped_expression, scoped_expressions_of}
+use Rattle.lz_tree.specs.ScopedTrees.{ScopedExpression, scoped_expression, scoped_expressions_of}
 use Rattle.lz_tree.specs.declared.scoped.KnownName.{KnownName}
 use Rattle.lz_model.specs.CodeTraces.{Locals, kind_of, kinds_of, is_object_argument}
 use Rattle.lz_machine.specs.Fits.{IsFit, AreFit}

@@ -1,25 +1,24 @@
 -- What a call makes of its stage is what its code may do from there, Loc left out.
-use Rattle.std.proofs.Common.{◌≡◌, ℕ, zero, suc, ◌+◌, Bool, true, false, List, [], ◌∷◌, ◌++◌, length, slice_index, Option, Some, None, refl, sym, ◌∙◌, ap, subst, append_assoc, length-append, arith}
+use Rattle.std.proofs.Common.{◌≡◌, ℕ, zero, suc, ◌+◌, Bool, true, false, List, [], ◌∷◌, ◌++◌, length, slice_index, Option, Some, None, refl, sym, ◌∙◌, ap, subst, append_assoc}
 use Rattle.std.proofs.lemmas.List.{append-nil}
 use Rattle.lz_base.specs.declared.word.BreakKind.{BreakKind}
 use Rattle.lz_base.specs.declared.word.BreakKind.TheVariants as kinds
 use Rattle.lz_base.specs.declared.word.IntType.{IntType}
-use Rattle.lz_base.specs.declared.word.IntType.TheVariants.{Int, Unsigned}
 use Rattle.lz_tree.specs.declared.scoped.KnownName.{KnownName}
 use Rattle.lz_tree.specs.declared.scoped.KnownName.TheVariants as known
 use Rattle.lz_tree.specs.declared.scoped.Object.{Object}
 use Rattle.lz_tree.specs.declared.scoped.Object.TheVariants.{Local, Cell, Mutex, Cond, Handle, Routine, Known}
 use Rattle.lz_tree.specs.ScopedTrees.{ScopedExpression, constant, null, text, object, address, paren, unary, cast, binary, choose, assign, step, call, Lvalue, lvalue, ScopedIndex, whole, element, ScopedExpressions, none, and}
 use Rattle.lz_model.specs.declared.actions.Action.{Action}
-use Rattle.lz_model.specs.declared.actions.Action.TheVariants.{Loc, Check, Assume, Create, Join, Park, Wake, Signal}
-use Rattle.lz_model.specs.Behaviours.{Outcome, Behaviour, ends_with, halts, leaves, updates, stays, tells, chooses, ◌and_then◌, ◌gives◌, picks}
-use Rattle.lz_model.specs.CodeTraces.{Locals, set_handle, Calls, at, does, loc, locs, checks, assumes, IsAny, inputs, checks_index, first_of, kinds_of, passed, in_frame, known_trace, expression_trace, arguments_trace, objects_trace, values_trace, handed_trace, place_trace, index_trace, is_object_argument}
-use Rattle.lz_model.proofs.FrontsLemmas.{Fronts, FrontCalls, fronts_value, fronts_updates, fronts_chooses, fronts_frame, fronts_expression}
-use Rattle.lz_machine.specs.Stages.{Stage, start, given, settled, calling, argument, passing, handed, arguing, argued, woken, made, Point, at_stage, within, Move, enters, goes, comes}
-use Rattle.lz_machine.specs.Moves.{Called, function_called, known_called, not_called, called, argument_at, arguments_of, index_of_argument, part_of, argument_slot, handed_slot, check_move, assume_move, calling_so, calling_move, argument_move, passing_one, passing_so, passing_move, handed_one, handed_so, handed_move, known_move, handed_index, written_index, element_at, index_move, value_so, arguing_so, arguing_move, argued_so, argued_move, woken_move, made_move, made_locals, begin_move}
+use Rattle.lz_model.specs.declared.actions.Action.TheVariants.{Check, Assume, Wake}
+use Rattle.lz_model.specs.Behaviours.{Behaviour, ends_with, stays, ◌and_then◌, ◌gives◌, picks}
+use Rattle.lz_model.specs.CodeTraces.{Locals, set_handle, Calls, at, does, locs, checks, assumes, IsAny, checks_index, first_of, known_trace, expression_trace, arguments_trace, objects_trace, values_trace, place_trace, index_trace, is_object_argument}
+use Rattle.lz_model.proofs.FrontsLemmas.{FrontCalls, fronts_updates, fronts_chooses, fronts_frame, fronts_expression}
+use Rattle.lz_machine.specs.Stages.{settled, passing, handed, argued}
+use Rattle.lz_machine.specs.Moves.{Called, function_called, known_called, not_called, called, argument_at, arguments_of, index_of_argument, part_of, handed_slot, check_move, assume_move, calling_so, calling_move, argument_move, passing_one, passing_so, passing_move, handed_one, handed_so, handed_move, known_move, handed_index, written_index, element_at, index_move, value_so, arguing_so, arguing_move, argued_so, argued_move, woken_move, made_move, made_locals, begin_move}
 use Rattle.lz_machine.specs.Seen.{Alike}
-use Rattle.lz_machine.specs.Resumed.{rest_from, calls_with, calling_from, calling_trace, arguing_from, arguing_trace, argued_known, argued_trace, passing_from, passing_trace, handed_place, handed_expression, handed_known, handed_trace_of, woken_trace, made_trace, stage_trace, with_part, resumed, behind, moved}
-use Rattle.lz_machine.proofs.SeenLemmas.{alike_same, alike_alike, alike_then, alike_behind, alike_value, alike_halts, alike_loc, alike_tells, alike_given, alike_gives, alike_ends, alike_assoc, alike_chooses, alike_choice, alike_renamed}
+use Rattle.lz_machine.specs.Resumed.{rest_from, calls_with, calling_from, calling_trace, arguing_from, arguing_trace, argued_known, argued_trace, passing_from, passing_trace, handed_place, handed_expression, handed_known, handed_trace_of, woken_trace, made_trace, stage_trace, with_part, moved}
+use Rattle.lz_machine.proofs.SeenLemmas.{alike_same, alike_alike, alike_behind, alike_value, alike_loc, alike_tells, alike_given, alike_ends, alike_assoc, alike_choice, alike_renamed}
 use Rattle.lz_machine.proofs.StepsLemmas.{index_moves, place_begins}
 
 -- ---- the arguments from one on

@@ -2,6 +2,9 @@ pub mod AdvanceLemmas
 pub mod ArgumentsLemmas
 pub mod CallsLemmas
 pub mod MovesLemmas
+pub mod PartsLemmas
 pub mod RanksLemmas
 pub mod SeenLemmas
+pub mod StatementsLemmas
+pub mod StationsLemmas
 pub mod StepsLemmas

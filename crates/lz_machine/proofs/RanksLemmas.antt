@@ -1,5 +1,5 @@
 -- Each turn of a node brings it nearer to its last stage.
-use Rattle.std.proofs.Common.{◌≡◌, ℕ, zero, suc, ◌+◌, ◌*◌, ◌-◌, ◌<◌, ◌≤◌, max, Bool, true, false, List, [], ◌∷◌, ◌++◌, length, nat_lt, slice_index, Option, Some, None, refl, sym, ◌∙◌, ap, subst, arith, if◌then◌else◌}
+use Rattle.std.proofs.Common.{◌≡◌, ℕ, zero, suc, ◌+◌, ◌*◌, ◌-◌, ◌<◌, max, Bool, true, false, List, [], ◌∷◌, ◌++◌, length, nat_lt, slice_index, Option, Some, None, refl, ap, arith, if◌then◌else◌}
 use Rattle.lz_base.specs.Words.{is_true, truth, converted}
 use Rattle.lz_base.specs.declared.word.BreakKind.{BreakKind}
 use Rattle.lz_base.specs.declared.word.BreakKind.TheVariants as kinds
@@ -11,9 +11,9 @@ use Rattle.lz_tree.specs.declared.scoped.KnownName.TheVariants as known
 use Rattle.lz_tree.specs.declared.scoped.Object.{Object}
 use Rattle.lz_tree.specs.declared.scoped.Object.TheVariants.{Local, Cell, Mutex, Cond, Handle, Routine, Known}
 use Rattle.lz_tree.specs.ScopedTrees.{ScopedExpression, constant, null, text, object, address, paren, unary, cast, binary, choose, assign, step, call, Lvalue, lvalue, ScopedIndex, whole, element, ScopedExpressions, none, and}
-use Rattle.lz_model.specs.CodeTraces.{Locals, kind_of_object, kind_or, kind_of, right_operand, operated, is_division, assigned, stepped, len_of, is_handle, object_of, is_object_argument}
-use Rattle.lz_machine.specs.Stages.{Stage, start, given, settled, indexed, ready, old, valued, writing, operand, first, second, taken, other, calling, argument, passing, handed, arguing, argued, woken, made, Move, enters, goes, comes}
-use Rattle.lz_machine.specs.Moves.{Called, function_called, known_called, not_called, called, argument_at, arguments_of, check_move, assume_move, need_move, bound_move, index_move, divide_move, read_move, write_move, element_at, target_move, target_begins, call_begins, begin_move, ready_target, valued_target, step_move, indexed_move, ready_move, old_move, valued_move, writing_move, operand_move, both_move, either_move, left_move, chosen_move, first_move, right_move, second_move, branch_move, calling_so, calling_move, argument_move, handed_index, handed_target, object_so, passing_one, passing_so, passing_move, handed_one, handed_so, handed_move, known_move, value_so, arguing_so, arguing_move, argued_so, argued_move, woken_move, made_move, turn_of}
+use Rattle.lz_model.specs.CodeTraces.{Locals, kind_of_object, kind_of, right_operand, operated, is_division, assigned, stepped, len_of, is_handle, object_of, is_object_argument}
+use Rattle.lz_machine.specs.Stages.{Stage, start, given, settled, indexed, ready, old, valued, writing, operand, first, second, taken, other, calling, argument, passing, handed, arguing, argued, woken, made}
+use Rattle.lz_machine.specs.Moves.{Called, function_called, known_called, not_called, called, argument_at, arguments_of, check_move, assume_move, need_move, bound_move, index_move, divide_move, read_move, write_move, element_at, target_begins, call_begins, begin_move, indexed_move, ready_move, old_move, valued_move, writing_move, operand_move, both_move, either_move, left_move, chosen_move, first_move, right_move, second_move, branch_move, calling_so, calling_move, argument_move, handed_index, handed_target, object_so, passing_one, passing_so, passing_move, handed_one, handed_so, handed_move, known_move, value_so, arguing_so, arguing_move, argued_so, argued_move, woken_move, made_move, turn_of}
 use Rattle.lz_machine.specs.Ranks.{count, rank_of, rank, Falls}
 
 longer : (values : List ℕ) (v : ℕ) → length (values ++ v ∷ []) ≡ suc (length values)

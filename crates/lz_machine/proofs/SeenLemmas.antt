@@ -1,13 +1,13 @@
 -- What may be done with Loc left out: each way in which code is put together keeps it.
-use Rattle.std.proofs.Common.{◌≡◌, ℕ, zero, suc, ◌⊎◌, inl, inr, Bool, true, false, List, [], ◌∷◌, ◌++◌, Option, Some, None, refl, sym, ◌∙◌, ap, subst, append_assoc}
+use Rattle.std.proofs.Common.{◌≡◌, ℕ, ◌⊎◌, inl, inr, Bool, true, false, List, [], ◌∷◌, ◌++◌, refl, sym, ◌∙◌, ap, subst, append_assoc}
 use Rattle.std.proofs.lemmas.List.{append-nil}
 use Rattle.lz_model.specs.declared.actions.Action.TheVariants.{Loc}
 use Rattle.lz_model.specs.Actions.{Act, is_loc}
-use Rattle.lz_model.specs.Behaviours.{Outcome, done, exits, cut, Behaviour, ends_with, halts, leaves, updates, stays, tells, chooses, GoesOn, ◌and_then◌, ◌gives◌, picks}
+use Rattle.lz_model.specs.Behaviours.{Outcome, done, exits, cut, Behaviour, ends_with, halts, leaves, updates, stays, tells, chooses, GoesOn, ◌and_then◌, ◌gives◌}
 use Rattle.lz_model.specs.CodeTraces.{at}
 use Rattle.lz_model.specs.WithoutLoc.{left_out, without_loc}
 use Rattle.lz_model.proofs.FrontsLemmas.{Fronts}
-use Rattle.lz_machine.specs.Seen.{Found, Seen, Follows, Alike}
+use Rattle.lz_machine.specs.Seen.{Seen, Follows, Alike}
 
 -- Loc left out of two lists, one after the other
 left_out-append : {A : Type 0} (b : Bool) (x : A) (xs ys : List A) → left_out b x (xs ++ ys) ≡ left_out b x xs ++ ys

@@ -1,23 +1,20 @@
 -- The single steps of a node, and what is left behind them, Loc left out.
-use Rattle.std.proofs.Common.{◌≡◌, ℕ, zero, suc, ◌+◌, Bool, true, false, List, [], ◌∷◌, ◌++◌, nat_lt, Option, Some, None, refl, sym, ◌∙◌, ap, subst, if◌then◌else◌}
-use Rattle.lz_base.specs.Words.{is_true, truth, converted}
+use Rattle.std.proofs.Common.{ℕ, zero, suc, ◌+◌, Bool, true, false, nat_lt}
+use Rattle.lz_base.specs.Words.{truth}
 use Rattle.lz_base.specs.declared.word.BreakKind.{BreakKind}
 use Rattle.lz_base.specs.declared.word.BreakKind.TheVariants as kinds
-use Rattle.lz_base.specs.declared.word.IntType.{IntType}
 use Rattle.lz_base.specs.declared.operator.Binary.{Binary}
-use Rattle.lz_base.specs.declared.operator.Binary.TheVariants as ops
 use Rattle.lz_tree.specs.declared.scoped.Object.{Object}
 use Rattle.lz_tree.specs.declared.scoped.Object.TheVariants.{Local, Cell, Mutex, Cond, Handle, Routine, Known}
-use Rattle.lz_tree.specs.ScopedTrees.{ScopedExpression, constant, null, text, object, address, paren, unary, cast, binary, choose, assign, step, call, Lvalue, lvalue, ScopedIndex, whole, element, ScopedExpressions, none, and}
-use Rattle.lz_model.specs.declared.actions.Action.TheVariants.{Loc, Check, Rd, Wr}
-use Rattle.lz_model.specs.Behaviours.{Outcome, Behaviour, ends_with, halts, leaves, updates, stays, tells, chooses, ◌and_then◌, ◌gives◌, picks}
-use Rattle.lz_model.specs.CodeTraces.{Locals, set_local, Calls, at, does, loc, checks, IsWord, read_at, write_at, needs, bounds, checks_index, len_of, first_of, kind_of_object, kind_or, kind_of, right_operand, operated, is_division, checks_divisor, behind_first, unary_operated, assigned, stepped, expression_trace, place_trace, index_trace}
-use Rattle.lz_model.proofs.FrontsLemmas.{Fronts, FrontCalls, fronts_then, fronts_gives, fronts_value, fronts_halts, fronts_updates, fronts_tells, fronts_picks, fronts_chooses, fronts_expression}
-use Rattle.lz_machine.specs.Stages.{Stage, start, given, settled, indexed, ready, old, valued, writing, operand, first, second, taken, other, Point, at_stage, within, Came, settles, acts, reads, fails, stops, Move, enters, goes, comes}
-use Rattle.lz_machine.specs.Moves.{check_move, need_move, bound_move, index_move, divide_move, read_move, write_move, written, target_move, begin_move, indexed_move, ready_move, old_move, old_locals, valued_move, writing_move, writing_locals, operand_move, both_move, either_move, left_move, chosen_move, first_move, right_move, second_move, branch_move, turn_of, left_by}
+use Rattle.lz_tree.specs.ScopedTrees.{ScopedExpression, lvalue, ScopedIndex, whole, element}
+use Rattle.lz_model.specs.Behaviours.{Behaviour, ends_with, ◌and_then◌, picks}
+use Rattle.lz_model.specs.CodeTraces.{Locals, set_local, Calls, checks, read_at, write_at, needs, bounds, checks_index, len_of, first_of, is_division, checks_divisor, place_trace, index_trace}
+use Rattle.lz_model.proofs.FrontsLemmas.{Fronts, FrontCalls, fronts_then, fronts_value, fronts_halts, fronts_updates, fronts_tells, fronts_picks, fronts_chooses, fronts_expression}
+use Rattle.lz_machine.specs.Stages.{Stage}
+use Rattle.lz_machine.specs.Moves.{check_move, need_move, bound_move, index_move, divide_move, read_move, write_move, written}
 use Rattle.lz_machine.specs.Seen.{Alike}
-use Rattle.lz_machine.specs.Resumed.{index_checks, read_element, write_element, behind_check, behind_operand, behind_value, behind_read, behind_place, behind_index, behind_one, right_trace, behind_two, behind_taken, behind_other, stage_trace, resumed, behind, moved}
-use Rattle.lz_machine.proofs.SeenLemmas.{alike_same, alike_alike, alike_then, alike_behind, alike_value, alike_halts, alike_loc, alike_tells, alike_given, alike_gives, alike_ends, alike_assoc, alike_chooses, alike_choice, alike_renamed}
+use Rattle.lz_machine.specs.Resumed.{index_checks, read_element, write_element, stage_trace, moved}
+use Rattle.lz_machine.proofs.SeenLemmas.{alike_same, alike_alike, alike_behind, alike_value, alike_halts, alike_loc, alike_tells, alike_given, alike_assoc, alike_renamed}
 
 -- ---- fronts
 

@@ -1,8 +1,8 @@
 -- Trusted: the trees that a thread can run: their constants are words, and the elements of their objects have numbers below 2 ^ 32.
-use Rattle.std.specs.Prelude.{ℕ, ◌+◌, ◌<◌, ◌≤◌, Option, Some, None, ⊤}
+use Rattle.std.specs.Prelude.{◌+◌, ◌<◌, ◌≤◌, ⊤, List, [], ◌∷◌}
 use Rattle.lz_base.specs.Words.{value_bound}
 use Rattle.lz_tree.specs.declared.scoped.Object.{Object}
-use Rattle.lz_tree.specs.ScopedTrees.{ScopedExpression, constant, null, text, object, address, paren, unary, cast, binary, choose, assign, step, call, Lvalue, lvalue, ScopedIndex, whole, element, ScopedExpressions, none, and}
+use Rattle.lz_tree.specs.ScopedTrees.{ScopedExpression, constant, null, text, object, address, paren, unary, cast, binary, choose, assign, step, call, Lvalue, lvalue, ScopedIndex, whole, element, ScopedExpressions, none, and, ScopedInitDeclarator}
 use Rattle.lz_model.specs.CodeTraces.{first_of, len_of}
 
 -- each element of an object, and its first one, has a number below 2 ^ 32
@@ -35,3 +35,8 @@ abbrev mutual
   pub AreFit : ScopedExpressions → Type 0
   AreFit none = ⊤
   AreFit (and e rest) = IsFit e × AreFit rest
+
+-- each object that is declared
+abbrev pub HaveNumbers : List ScopedInitDeclarator → Type 0
+HaveNumbers [] = ⊤
+HaveNumbers (d ∷ rest) = HasNumbers d.object × HaveNumbers rest

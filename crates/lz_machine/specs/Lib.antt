@@ -4,4 +4,10 @@ pub mod Moves
 pub mod Ranks
 pub mod Resumed
 pub mod Seen
+pub mod Sizes
 pub mod Stages
+pub mod StationMoves
+pub mod StationTraces
+pub mod Stations
+pub mod StationsHeld
+pub mod Turning

@@ -1,5 +1,5 @@
 -- Inner: what one node of an expression does at each stage, one step at a time.
-use Rattle.std.specs.Prelude.{ℕ, zero, suc, ◌+◌, ◌*◌, ◌-◌, Bool, true, false, nat_lt, List, [], ◌∷◌, ◌++◌, length, Option, Some, None, slice_index, if◌then◌else◌}
+use Rattle.std.specs.Prelude.{ℕ, zero, suc, ◌+◌, Bool, true, false, nat_lt, List, [], ◌∷◌, ◌++◌, length, Option, Some, None, slice_index, if◌then◌else◌}
 use Rattle.lz_base.specs.Words.{is_true, truth, converted}
 use Rattle.lz_base.specs.declared.word.BreakKind.{BreakKind}
 use Rattle.lz_base.specs.declared.word.BreakKind.TheVariants as kinds
@@ -14,7 +14,7 @@ use Rattle.lz_tree.specs.declared.scoped.Object.TheVariants.{Local, Cell, Mutex,
 use Rattle.lz_tree.specs.ScopedTrees.{ScopedExpression, constant, null, text, object, address, paren, unary, cast, binary, choose, assign, step, call, Lvalue, lvalue, ScopedIndex, whole, element, ScopedExpressions, none, and}
 use Rattle.lz_model.specs.declared.actions.Action.TheVariants.{Check, Assume, Wr, Reset, Lock, Unlock, Park, Wake, Broadcast, Join, HoldOn, HoldOff}
 use Rattle.lz_model.specs.CodeTraces.{Locals, set_local, set_handle, first_of, len_of, kind_of_object, kind_or, kind_of, kinds_of, right_operand, operated, is_division, unary_operated, assigned, stepped, is_handle, object_of, is_object_argument}
-use Rattle.lz_machine.specs.Stages.{Stage, start, given, settled, indexed, ready, old, valued, writing, operand, first, second, taken, other, calling, argument, passing, handed, arguing, argued, woken, made, Point, at_stage, Came, settles, acts, reads, asks, signals, creates, calls_on, fails, refuses, quits, stops, Move, enters, goes, comes}
+use Rattle.lz_machine.specs.Stages.{Stage, start, given, settled, indexed, ready, old, valued, writing, operand, first, second, taken, other, calling, argument, passing, handed, arguing, argued, woken, made, at_stage, settles, acts, reads, asks, signals, creates, calls_on, fails, refuses, quits, stops, Move, enters, goes, comes}
 
 -- ---- the part behind which a stage comes
 

@@ -1,5 +1,5 @@
 -- Inner: how far a node is from its last stage: each turn brings it nearer.
-use Rattle.std.specs.Prelude.{ℕ, zero, suc, ◌+◌, ◌*◌, ◌-◌, ◌<◌, max, length, ⊤}
+use Rattle.std.specs.Prelude.{ℕ, suc, ◌+◌, ◌*◌, ◌-◌, ◌<◌, max, length, ⊤}
 use Rattle.lz_tree.specs.ScopedTrees.{ScopedExpression, ScopedExpressions, none, and}
 use Rattle.lz_machine.specs.Stages.{Stage, start, given, settled, indexed, ready, old, valued, writing, operand, first, second, taken, other, calling, argument, passing, handed, arguing, argued, woken, made, Move, enters, goes, comes}
 use Rattle.lz_machine.specs.Moves.{arguments_of}

@@ -1,5 +1,5 @@
 -- Inner: what an expression may do from a place in it, in the terms of the traces of code.
-use Rattle.std.specs.Prelude.{◌≡◌, ℕ, zero, suc, ◌+◌, Bool, true, false, nat_lt, List, [], ◌∷◌, ◌++◌, length, Option, Some, None, if◌then◌else◌}
+use Rattle.std.specs.Prelude.{◌≡◌, ℕ, zero, suc, ◌+◌, Bool, false, nat_lt, List, [], ◌∷◌, ◌++◌, length, Option, Some, None, if◌then◌else◌}
 use Rattle.lz_base.specs.Words.{is_true, truth, converted}
 use Rattle.lz_base.specs.declared.operator.Binary.{Binary}
 use Rattle.lz_base.specs.declared.operator.Binary.TheVariants as ops
@@ -8,10 +8,9 @@ use Rattle.lz_tree.specs.declared.scoped.KnownName.{KnownName}
 use Rattle.lz_tree.specs.declared.scoped.Object.{Object}
 use Rattle.lz_tree.specs.declared.scoped.Object.TheVariants.{Local, Cell, Mutex, Cond, Handle, Routine, Known}
 use Rattle.lz_tree.specs.ScopedTrees.{ScopedExpression, constant, null, text, object, address, paren, unary, cast, binary, choose, assign, step, call, Lvalue, lvalue, ScopedIndex, whole, element, ScopedExpressions, none, and, ScopedProgram}
-use Rattle.lz_model.specs.declared.actions.Action.{Action}
 use Rattle.lz_model.specs.declared.actions.Action.TheVariants.{Loc, Check, Assume, Rd, Wr, Signal, Create, Wake}
-use Rattle.lz_model.specs.Behaviours.{Outcome, Behaviour, ends_with, halts, leaves, stays, tells, chooses, ◌and_then◌, ◌gives◌, picks}
-use Rattle.lz_model.specs.CodeTraces.{Locals, set_local, set_handle, Calls, at, does, loc, IsWord, IsValueOf, IsAny, inputs, read_at, write_at, needs, bounds, len_of, kind_of_object, kind_or, kind_of, kinds_of, first_of, right_operand, operated, checks_divisor, behind_first, assigned, stepped, unary_operated, passed, in_frame, locs, known_trace, expression_trace, objects_trace, values_trace, arguments_trace}
+use Rattle.lz_model.specs.Behaviours.{Behaviour, ends_with, halts, leaves, stays, tells, chooses, ◌and_then◌, ◌gives◌, picks}
+use Rattle.lz_model.specs.CodeTraces.{Locals, set_local, set_handle, Calls, at, does, loc, IsWord, IsAny, inputs, write_at, needs, bounds, len_of, kind_of_object, kind_or, kind_of, kinds_of, first_of, right_operand, operated, checks_divisor, behind_first, assigned, stepped, unary_operated, passed, in_frame, locs, known_trace, expression_trace, objects_trace, values_trace, arguments_trace}
 use Rattle.lz_model.specs.Programs.{calls_within}
 use Rattle.lz_machine.specs.Stages.{Stage, start, given, settled, indexed, ready, old, valued, writing, operand, first, second, taken, other, calling, argument, passing, handed, arguing, argued, woken, made, Point, at_stage, within, Came, settles, acts, reads, asks, signals, creates, calls_on, fails, refuses, quits, stops, Move, enters, goes, comes}
 use Rattle.lz_machine.specs.Moves.{slot_of, part_of, Called, function_called, known_called, not_called, called, argument_at, arguments_of}

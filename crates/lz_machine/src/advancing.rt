@@ -2,8 +2,12 @@ ghost use Rattle.std.specs.Prelude.{◌≡◌, IfOk};
 ghost use Rattle.lz_tree.specs.ScopedTrees.{scoped_expression};
 ghost use Rattle.lz_machine.specs.Stages.{stage_of, point_of, came_of, move_of, locals_of, inside, value_if_done};
 ghost use Rattle.lz_machine.specs.Stages as stages;
-ghost use Rattle.lz_machine.specs.Moves.{turn_of, left_by};
+ghost use Rattle.lz_machine.specs.Moves as spec;
+ghost use Rattle.lz_machine.specs.Moves.{turn_of, left_by, slot_of, part_of};
 ghost use Rattle.lz_machine.specs.Fits.{IsFit};
+ghost use Rattle.lz_machine.specs.Resumed.{Comes, PartComes, Turns};
+ghost use Rattle.lz_machine.specs.Ranks.{GoesDown, rank, count};
+ghost use Rattle.lz_machine.specs.Turning.{turned_of, turned_by, Entered, ComesBehind};
 
 use crate::calls::{
     argued_move, arguing_move, argument_move, arguments, called, calling_move, handed_move,
@@ -13,6 +17,7 @@ use crate::nodes::{
     begin_move, branch_move, first_move, indexed_move, old_move, old_writes, operand_move,
     ready_move, second_move, valued_move, writing_move, writing_writes,
 };
+use crate::parts::part_at;
 use crate::stage::{Came, Locals, Move, Place, Stage};
 use lz_base::Memory;
 use lz_tree::ScopedExpr;
@@ -28,7 +33,7 @@ fn done(value: u32) -> Move
 }
 
 /// A step of a node at a stage, with this value.
-pub fn moved(
+fn moved(
     alloc: Global,
     e: &ScopedExpr,
     stage: Stage,
@@ -91,7 +96,7 @@ pub fn moved(
 }
 
 /// The value of what is done.
-pub fn done_value(came: &Came) -> Option<u32>
+fn done_value(came: &Came) -> Option<u32>
     ensures { result ≡ value_if_done (came_of came.now) }
 {
     match came {
@@ -118,7 +123,7 @@ fn within(alloc: Global, stage: Stage, inner: Place) -> Result<Place, Memory>
 }
 
 /// What came so far in a part, behind which its node is at this stage.
-pub fn came_within(alloc: Global, stage: Stage, came: Came) -> Result<Came, Memory>
+fn came_within(alloc: Global, stage: Stage, came: Came) -> Result<Came, Memory>
     ensures { IfOk result (λ whole. came_of whole ≡ inside (stage_of stage) (came_of came)) }
 {
     match came {
@@ -179,5 +184,173 @@ pub fn came_within(alloc: Global, stage: Stage, came: Came) -> Result<Came, Memo
         Came::Refuses { line } => Ok(Came::Refuses { line }),
         Came::Exits => Ok(Came::Exits),
         Came::Stops => Ok(Came::Stops),
+    }
+}
+
+/// How far one turn of a node came.
+#[derive(Drop)]
+pub enum Turned {
+    /// To another stage, with this value.
+    Again { stage: Stage, value: u32 },
+    Stopped { came: Came },
+}
+
+/// What a turn leads to where the part behind which its node comes to this stage came so far.
+fn behind_part(alloc: Global, stage: Stage, came: Came) -> Result<Turned, Memory>
+    ensures { IfOk result (λ t. turned_of t ≡ turned_by (stage_of stage) (came_of came)) }
+{
+    match done_value(&came) {
+        Some(value) => Ok(Turned::Again { stage, value }),
+        None => {
+            let came = came_within(alloc, stage, came)?;
+            Ok(Turned::Stopped { came })
+        }
+    }
+}
+
+/// Goes on in the part behind which a node comes to this stage.
+#[cycle(advance)]
+fn part(
+    alloc: Global,
+    e: &ScopedExpr,
+    stage: &Stage,
+    place: Place,
+    given: u32,
+    locals: &mut Locals,
+) -> Result<Came, Memory>
+    requires { IsFit (scoped_expression e.now) }
+    ensures { IfOk result (λ came. PartComes (part_of (scoped_expression e.now) (slot_of (stage_of stage.now))) (point_of place) given (locals_of locals.old) (came_of came) (locals_of locals.new)) }
+{
+    match part_at(e, stage) {
+        None => Ok(Came::Stops),
+        Some(inner) => {
+            let came = advance(alloc, inner, place, given, locals)?;
+            Ok(came)
+        }
+    }
+}
+
+/// Enters the part behind which a node comes to this stage.
+#[cycle(advance)]
+fn enter(alloc: Global, e: &ScopedExpr, stage: Stage, locals: &mut Locals) -> Result<Turned, Memory>
+    requires { IsFit (scoped_expression e.now) }
+    ensures { IfOk result (λ t. Entered (scoped_expression e.now) (stage_of stage) (locals_of locals.old) (turned_of t) (locals_of locals.new)) }
+{
+    let came = part(
+        alloc,
+        e,
+        &stage,
+        Place::At {
+            stage: Stage::Start,
+        },
+        0,
+        locals,
+    )?;
+    let turned = behind_part(alloc, stage, came)?;
+    Ok(turned)
+}
+
+/// One turn of a node from a stage on, with this value.
+#[cycle(advance)]
+fn turn(
+    alloc: Global,
+    e: &ScopedExpr,
+    stage: Stage,
+    value: u32,
+    locals: &mut Locals,
+) -> Result<Turned, Memory>
+    requires { IsFit (scoped_expression e.now) }
+    ensures same { IfOk result (λ t. Turns (scoped_expression e.now) (stage_of stage) value (locals_of locals.old) (turned_of t) (locals_of locals.new)) }
+    ensures down { IfOk result (λ t. GoesDown (count (spec.arguments_of (scoped_expression e.now))) (rank (scoped_expression e.now) (stage_of stage)) (turned_of t)) }
+{
+    match moved(alloc, e, stage, value, locals)? {
+        Move::Comes { came } => Ok(Turned::Stopped { came }),
+        Move::Goes {
+            stage: next,
+            value: held,
+        } => Ok(Turned::Again {
+            stage: next,
+            value: held,
+        }),
+        Move::Enters { stage: next } => {
+            let turned = enter(alloc, e, next, locals)?;
+            Ok(turned)
+        }
+    }
+}
+
+/// Goes on from a stage, with this value, up to the next action.
+#[cycle(advance)]
+fn go_on(
+    alloc: Global,
+    e: &ScopedExpr,
+    stage: Stage,
+    value: u32,
+    locals: &mut Locals,
+) -> Result<Came, Memory>
+    requires { IsFit (scoped_expression e.now) }
+    ensures { IfOk result (λ came. Comes (scoped_expression e.now) (stages.at_stage (stage_of stage)) value (locals_of locals.old) (came_of came) (locals_of locals.new)) }
+{
+    let mut now = stage;
+    let mut held = value;
+    loop {
+        match turn(alloc, e, now, held, locals)? {
+            Turned::Again {
+                stage: next,
+                value: given,
+            } => {
+                now = next;
+                held = given;
+            }
+            Turned::Stopped { came } => return Ok(came),
+        }
+    }
+}
+
+/// Goes on behind a part that came so far.
+#[cycle(advance)]
+fn go_behind(
+    alloc: Global,
+    e: &ScopedExpr,
+    turned: Turned,
+    locals: &mut Locals,
+) -> Result<Came, Memory>
+    requires { IsFit (scoped_expression e.now) }
+    ensures { IfOk result (λ came. ComesBehind (scoped_expression e.now) (turned_of turned) (locals_of locals.old) (came_of came) (locals_of locals.new)) }
+{
+    match turned {
+        Turned::Again { stage, value } => {
+            let came = go_on(alloc, e, stage, value, locals)?;
+            Ok(came)
+        }
+        Turned::Stopped { came } => Ok(came),
+    }
+}
+
+/// Goes on from a place of an expression, where this value is given, up to the next action or to the end. What the
+/// expression may do from there is what it may do where it came so far, Loc left out, however deep its calls may go.
+/// The time is that of the way down to the place, and of the steps that are no actions.
+#[cycle(advance)]
+pub fn advance(
+    alloc: Global,
+    e: &ScopedExpr,
+    place: Place,
+    given: u32,
+    locals: &mut Locals,
+) -> Result<Came, Memory>
+    requires { IsFit (scoped_expression e.now) }
+    ensures { IfOk result (λ came. Comes (scoped_expression e.now) (point_of place) given (locals_of locals.old) (came_of came) (locals_of locals.new)) }
+{
+    match place {
+        Place::At { stage } => {
+            let came = go_on(alloc, e, stage, given, locals)?;
+            Ok(came)
+        }
+        Place::Within { stage, inner } => {
+            let came = part(alloc, e, &stage, Box::into_inner(inner), given, locals)?;
+            let turned = behind_part(alloc, stage, came)?;
+            let came = go_behind(alloc, e, turned, locals)?;
+            Ok(came)
+        }
     }
 }

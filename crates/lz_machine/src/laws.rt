@@ -1,12 +1,15 @@
 ghost use Rattle.std.specs.Prelude.{ℕ};
-ghost use Rattle.lz_tree.specs.ScopedTrees.{ScopedExpression, ScopedProgram};
-ghost use Rattle.lz_model.specs.CodeTraces.{Locals};
+ghost use Rattle.lz_tree.specs.ScopedTrees.{ScopedExpression, ScopedStatement, ScopedProgram};
+ghost use Rattle.lz_model.specs.CodeTraces.{Flow, Locals};
 ghost use Rattle.lz_model.specs.Programs.{calls_within};
 ghost use Rattle.lz_machine.specs.Stages.{Stage};
 ghost use Rattle.lz_machine.specs.Moves.{turn_of, left_by, arguments_of};
 ghost use Rattle.lz_machine.specs.Seen.{Alike};
 ghost use Rattle.lz_machine.specs.Resumed.{stage_trace, moved};
 ghost use Rattle.lz_machine.specs.Ranks.{Falls, count, rank};
+ghost use Rattle.lz_machine.specs.Stations.{Station};
+ghost use Rattle.lz_machine.specs.StationMoves.{station_move, station_leaves};
+ghost use Rattle.lz_machine.specs.StationTraces.{station_trace, station_moved};
 
 /// What is left of a node at a stage is what its next step leads to, with the local values that the step leaves, Loc
 /// left out: at the first stage it is the whole of the expression's traces. Calls may go to any depth.
@@ -17,4 +20,11 @@ pub fn a_turn_of_a_node()
 /// Each step brings a node nearer to its last stage, so the turns of a node end.
 pub fn turns_end()
     ensures { (e : ScopedExpression) (stage : Stage) (v : ℕ) (locals : Locals) → Falls (count (arguments_of e)) (rank e stage) (turn_of e stage v locals) }
+{}
+
+/// What is left of a statement at a station is what its next step leads to, with the local values that the step leaves,
+/// Loc left out: at the first station it is the whole of the statement's traces, where a loop has at most `bound` turns.
+/// Calls may go to any depth.
+pub fn a_turn_of_a_statement()
+    ensures { (p : ScopedProgram) (n bound depth : ℕ) (s : ScopedStatement) (station : Station) (v : ℕ) (flow : Flow) (locals : Locals) → Alike (station_trace (calls_within p n depth) bound s station v flow) locals (station_moved (calls_within p n depth) bound s (station_move bound s station v flow)) (station_leaves s station v locals) }
 {}

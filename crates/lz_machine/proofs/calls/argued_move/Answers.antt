@@ -1,4 +1,4 @@
-use Rattle.std.proofs.Common.{◌≡◌, ap, subst, map}
+use Rattle.std.proofs.Common.{ap}
 use Rattle.lz_machine.specs.Callees.{callee_of}
 use Rattle.lz_machine.proofs.ArgumentsLemmas.{argued_in, argued_out}
 use Rattle.lz_machine.proofs.calls.argued_move.Goals as goal

@@ -1,4 +1,4 @@
-use Rattle.std.proofs.Common.{◌≡◌, ap, subst, map}
+use Rattle.std.proofs.Common.{ap}
 use Rattle.lz_machine.specs.Callees.{callee_of}
 use Rattle.lz_machine.proofs.ArgumentsLemmas.{arguing_in, arguing_out}
 use Rattle.lz_machine.proofs.calls.arguing_move.Goals as goal

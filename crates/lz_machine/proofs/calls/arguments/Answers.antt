@@ -1,4 +1,4 @@
-use Rattle.std.proofs.Common.{◌≡◌, ◌∙◌, ap, sym, map, List}
+use Rattle.std.proofs.Common.{◌∙◌, ap, sym, map, List}
 use Rattle.lz_tree.specs.declared.scoped.ScopedExpr.{ScopedExpr}
 use Rattle.lz_tree.specs.ScopedTrees.{scoped_expression, scoped_expressions_of}
 use Rattle.lz_tree.proofs.ScopedTreesLemmas.{is_scoped_call}

@@ -1,4 +1,4 @@
-use Rattle.std.proofs.Common.{◌≡◌, ap, subst, map, IfOk}
+use Rattle.std.proofs.Common.{◌≡◌, ap, subst, IfOk}
 use Rattle.lz_machine.specs.Callees.{callee_of}
 use Rattle.lz_machine.specs.Stages.{move_of}
 use Rattle.lz_machine.specs.Stages as stages
