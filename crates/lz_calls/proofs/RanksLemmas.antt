@@ -209,3 +209,12 @@ not_falling graph ranks count f own calls low are is none falling =
     let contained : Contains calls (slice_index calls k) = (k, here, default calls k 0 (slice_index calls k) here) in
     let found = falling.each f (slice_index calls k) low (subst (λ (r : List ℕ). Contains r (slice_index calls k)) are contained) in
     (found.0, omega (arith, found.1, is)))
+
+-- ranks where each call leads to a lower one
+pub ranking_by_falling : (graph : List (List ℕ)) (ranks : List ℕ) (count : ℕ) → count ≡ length graph → length ranks ≡ length graph → ((k : ℕ) → k < length ranks → 0 < slice_index ranks k) → IsFalling graph ranks count count → IsRanking graph ranks
+ranking_by_falling graph ranks count whole long positive falling = record {
+  long = long;
+  positive = λ f low. positive f (omega (arith, low, long));
+  falls = λ f g c. omega (arith, (falling.each f g (omega (arith, calls_within graph f g c, whole)) c).1);
+  back = λ f g c same. absurd (omega (arith, same, (falling.each f g (omega (arith, calls_within graph f g c, whole)) c).1));
+}

@@ -6,8 +6,9 @@ ghost use Rattle.lz_calls.specs.Facts.{AreStarts, IsOrderOf, facts_of};
 
 use crate::heights::heights;
 use crate::listing::graph;
-use crate::ranks::{is_falling, rank_at, rank_order, ranks_by_reach, returning_row};
+use crate::ranks::{is_falling, rank_at, rank_order, returning_row};
 use crate::reaching::{reach, row};
+use crate::walking::ranks_of;
 use lz_base::{Memory, Sequence};
 use lz_tree::ScopedFunction;
 use std::alloc::Global;
@@ -103,7 +104,7 @@ pub fn facts(alloc: Global, functions: &[ScopedFunction]) -> Result<CallFacts, M
 {
     let count = count_of(functions)?;
     let graph = graph(alloc, functions)?;
-    let ranks = ranks_by_reach(alloc, &graph, count)?;
+    let ranks = ranks_of(alloc, &graph, count)?;
     let order = rank_order(alloc, &ranks, count)?;
     let heights = heights(alloc, functions, &ranks, &order)?;
     let returning = returning_rows(alloc, &graph, &ranks, count)?;

@@ -8,6 +8,7 @@ mod laws;
 mod listing;
 mod ranks;
 mod reaching;
+mod walking;
 
 pub use finding::{BODY_HEIGHT_LIMIT, CallFacts, facts};
 pub use laws::facts_are_determined;
