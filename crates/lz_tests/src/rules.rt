@@ -308,13 +308,7 @@ const NEAR: [Row; 24] = [
 ];
 
 /// Programs that break several rules, of which the first is told.
-const ORDER: [Row; 25] = [
-    (
-        "int main(void) { pthread_exit(\nx); }",
-        "SOURCE line 2 rule 7\n",
-        4,
-        "rule 7: an argument has its own line",
-    ),
+const ORDER: [Row; 24] = [
     (
         "int x;\nint main(void) { x = y +\n z(); }",
         "SOURCE line 2 rule 1\n",
