@@ -38,7 +38,7 @@ ASSERTION = re.compile(rf"{GAP}(assert){GAP}\({GAP}({SUM}){GAP}==(?!=){GAP}({SUM
 END = re.compile(rf"{GAP}\}}{GAP}(?://[^\n]*)?\Z")
 REFUSALS = {
     12: re.compile(r"NOTBUILT line 0\n\Z"),
-    4: re.compile(r"SOURCE line ([1-9][0-9]*) (?:byte (?:0|[1-9][0-9]*): not a token|token (?:0|[1-9][0-9]*): not a program)\n\Z"),
+    4: re.compile(r"SOURCE line ([1-9][0-9]*) (?:byte (?:0|[1-9][0-9]*): not a token|token (?:0|[1-9][0-9]*): not a program|rule (?:[1-9]|1[0-9]|2[0-6]))\n\Z|SOURCE line (0) rule 15\n\Z"),
 }
 
 
@@ -119,7 +119,7 @@ def expected(text):
 def is_refusal(text, report, status):
     """Whether the report is a refusal of its status, on a line that the text has."""
     match = REFUSALS[status].match(report) if status in REFUSALS else None
-    return match is not None and (status == 12 or int(match.group(1)) <= text.count("\n") + 1)
+    return match is not None and (status == 12 or int(match.group(1) or 0) <= text.count("\n") + 1)
 
 
 def gap(rng):

@@ -11,7 +11,7 @@ import time
 
 TOP = os.path.dirname(os.path.dirname(os.path.abspath(__file__)))
 PROGRAM = os.path.join(TOP, "crates", "lazycheck", "out", "lazycheck")
-SIZES = [1000, 2000, 4000, 8000, 16000, 30000]
+SIZES = [250, 500, 1000, 2000]
 RUNS = 40
 
 
