@@ -3,11 +3,7 @@
 
 use crate::command::{AMPLE, NOT_BUILT, Row, call, call_with, compare, compare_rows};
 use lz_base::{Bytes, Memory};
-use lz_lex::lex;
 use lz_outside::Calls;
-use lz_parse::parse;
-use lz_slots::{cost, slots};
-use lz_types::check;
 use std::alloc::Global;
 use std::test::Fail;
 
@@ -740,36 +736,5 @@ fn costs(rt: HostRuntime) -> Result<(), Fail> {
         let report = over_cost(alloc, cost).ok().ok_or("memory")?;
         assert_eq!(rt; told.text.items(), report.items(), "{statements}");
     }
-    Ok(())
-}
-
-/// Slots and cost of a text within other bounds.
-fn measured(alloc: Global, text: &str, unwind: u32, rounds: u32) -> Result<(u64, u64), Fail> {
-    let tokens = lex(alloc, text.as_bytes()).ok().ok_or("tokens")?;
-    let program = parse(alloc, &tokens).ok().ok_or("a program")?;
-    let checked = check(alloc, program).ok().ok_or("no rule is broken")?;
-    let sites = slots(alloc, checked.scoped(), checked.order(), unwind)
-        .ok()
-        .ok_or("memory")?;
-    let price = cost(alloc, checked.scoped(), checked.order(), unwind, rounds)
-        .ok()
-        .ok_or("memory")?;
-    Ok((sites, price))
-}
-
-#[test]
-fn other_bounds(rt: HostRuntime) -> Result<(), Fail> {
-    let alloc = rt.alloc();
-    let loops = measured(
-        alloc,
-        "int main(void) { while (1) while (1) while (1) while (1) ; }",
-        100,
-        2,
-    )?;
-    assert_eq!(rt; loops.1, 417874751488);
-    let threads =
-        "void *f(void *a) { return NULL; } int main(void) { pthread_t t; while (1) pthread_create(&t, NULL, f, NULL); }";
-    assert_eq!(rt; measured(alloc, threads, 17, 2)?.0, 17);
-    assert_eq!(rt; measured(alloc, threads, 16, 2)?.0, 16);
     Ok(())
 }
