@@ -17,7 +17,7 @@ use Rattle.lz_arith.specs.Bits.{bit, word, AreBits}
 use Rattle.lz_arith.specs.Bitwise.{bitwise_value, bitwise_number}
 use Rattle.lz_arith.proofs.Words.{word_take, word_lt}
 use Rattle.lz_arith.proofs.Loops.{push_at, less_at}
-use Rattle.lz_arith.proofs.Adding.{are_lits_more}
+use Rattle.lz_arith.proofs.AddLemmas.{are_lits_more}
 
 -- neither of two literals, in the other sign
 pub or_makes : (old new : Circuit) (left right no_left no_right neither some : Lit) → no_left ≡ negated left → no_right ≡ negated right → some ≡ negated neither

@@ -5,7 +5,7 @@ use Rattle.lz_gates.specs.Circuits.{Circuit, Assignment, value, IsLit, AreLits, 
 use Rattle.lz_gates.proofs.Extending.{makes_then, makes_so, still}
 use Rattle.lz_arith.specs.Bits.{bit, word, copies, negations, AreBits}
 use Rattle.lz_arith.proofs.Shifting.{length-copies, copies_in, word_copies}
-use Rattle.lz_arith.proofs.Dividing.{word_negations, length-negations, negations_in}
+use Rattle.lz_arith.proofs.DivideLemmas.{word_negations, length-negations, negations_in}
 
 -- the literals in the other sign are as many, of the same circuit
 pub negated_bits : (circuit : Circuit) (n : ℕ) (xs ys : List Lit) → ys ≡ negations xs → AreBits circuit n xs → AreBits circuit n ys

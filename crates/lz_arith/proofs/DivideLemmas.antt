@@ -10,9 +10,9 @@ use Rattle.lz_gates.specs.Circuits.{Circuit, Assignment, value, IsLit, AreLits, 
 use Rattle.lz_gates.proofs.Extending.{makes_then, makes_so, makes_same, still}
 use Rattle.lz_gates.proofs.Gate.{value-negated, variable_of-negated}
 use Rattle.lz_arith.specs.Bits.{bit, word, copies, negations, AreBits}
-use Rattle.lz_arith.proofs.Words.{word_push, word_lt, pow_twice, bit_le}
+use Rattle.lz_arith.proofs.Words.{word_push, word_lt, pow_twice, bit_le, row_more}
 use Rattle.lz_arith.proofs.Shifting.{word_front, append_in, word_copies}
-use Rattle.lz_arith.proofs.Adding.{are_lits_more}
+use Rattle.lz_arith.proofs.AddLemmas.{are_lits_more}
 
 -- the opposites of literals and of one more
 pub negations_push : (xs : List Lit) (y : Lit) → negations (xs ++ y ∷ []) ≡ negations xs ++ negated y ∷ []
@@ -169,10 +169,6 @@ divides_none start left divisor rest off hl hd hr is off_false = record {
 quotient_step : (f d q D r s H : ℕ) → q * D + r ≡ H → f * D + s ≡ d + 2 * r → (f + 2 * q) * D + s ≡ d + 2 * H
 quotient_step f d q D r s H e g = grind arith
 
--- one more step has as many gates again
-more_rows : (n i : ℕ) → n * i + n ≤ n * (i + 1)
-more_rows n i = grind arith
-
 -- one more step divides one more digit
 pub divides_more : (start now next : Circuit) (left divisor quotient rest more r : List Lit) (i at : ℕ) (d fits : Lit) → Divides start now left divisor quotient rest i → i < length left → at ≡ length left - 1 - i
     → IsLit next fits → AreBits next (length left) r → more ≡ fits ∷ quotient
@@ -205,7 +201,7 @@ divides_more start now next left divisor quotient rest more r i at d fits h lt a
             ∙ sym high,
         now_.1,
       )))
-      (more_rows (4 * length left + 3) i) (more_rows (20 * length left + 14) i) (λ a s p. p);
+      (row_more (4 * length left + 3) i) (row_more (20 * length left + 14) i) (λ a s p. p);
 }
 
 -- a quotient and a rest below the divisor are the quotient and the remainder
@@ -227,7 +223,7 @@ divides_all start now left divisor quotient rest i h e =
 -- there is room for one more step
 pub digits_room : (n i now start : ℕ) → i < n → now ≤ start + (4 * n + 3) * i → start + (4 * n + 3) * n < 2147483648 → now + 4 * n + 3 < 2147483648
 digits_room n i now start lt le room =
-    let p = more_rows (4 * n + 3) i in
+    let p = row_more (4 * n + 3) i in
     let q = mul-le-mul_left {m = i + 1} {n = n} (4 * n + 3) (omega arith) in
     omega arith
 

@@ -10,7 +10,7 @@ use Rattle.lz_cnf.specs.declared.clause.Lit.{Lit}
 use Rattle.lz_gates.specs.Circuits.{Circuit, IsLit}
 use Rattle.lz_arith.specs.Bits.{AreBits}
 use Rattle.lz_arith.specs.Sizes.{unary_variables, binary_variables}
-use Rattle.lz_arith.proofs.Adding.{are_lits_more}
+use Rattle.lz_arith.proofs.AddLemmas.{are_lits_more}
 
 -- so many fresh literals so far
 pub record Freshens (start now : Circuit) (bits : List Lit) (i : ℕ) : Type 0 where

@@ -8,7 +8,7 @@ use Rattle.lz_gates.specs.Circuits.{Circuit, Assignment, value, IsLit, AreLits, 
 use Rattle.lz_gates.proofs.Extending.{makes_then, makes_so, makes_same}
 use Rattle.lz_arith.specs.Bits.{bit, word, AreBits}
 use Rattle.lz_arith.proofs.Words.{word_push, word_take, word_lt}
-use Rattle.lz_arith.proofs.Adding.{are_lits_more}
+use Rattle.lz_arith.proofs.AddLemmas.{are_lits_more}
 
 -- what a loop that pushes one literal a turn keeps
 pub record Grows (start now : Circuit) (left right : List Lit) (test : Lit) (i : ℕ) (bits : List Lit) (variables clauses : ℕ) (Says : Assignment → Type 0) : Type 0 where

@@ -12,7 +12,7 @@ use Rattle.lz_gates.specs.Circuits.{Assignment, value, xor}
 use Rattle.lz_arith.specs.Bits.{bit, word, copies}
 use Rattle.lz_arith.proofs.Words.{word_push, word_lt}
 use Rattle.lz_arith.proofs.Shifting.{word_split}
-use Rattle.lz_arith.proofs.Dividing.{small_mod}
+use Rattle.lz_arith.proofs.DivideLemmas.{small_mod}
 
 -- ---- shifts: a stage after the stages before it
 

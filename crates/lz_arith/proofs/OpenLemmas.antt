@@ -7,10 +7,10 @@ use Rattle.lz_cnf.specs.declared.clause.Lit.{Lit}
 use Rattle.lz_cnf.specs.Models.{variable_of}
 use Rattle.lz_gates.specs.Circuits.{Circuit, Assignment, value, clause_value, IsLit, AreLits, Satisfies, Makes}
 use Rattle.lz_gates.proofs.Extending.{makes_so, makes_same, still}
-use Rattle.lz_gates.proofs.Folds.{value-same}
+use Rattle.lz_gates.proofs.FoldLemmas.{value-same}
 use Rattle.lz_arith.specs.Bits.{word, copies}
 use Rattle.lz_arith.specs.Open.{KeepsTest}
-use Rattle.lz_arith.proofs.Truth.{clause_word}
+use Rattle.lz_arith.proofs.NonzeroLemmas.{clause_word}
 
 -- one of three is true, grouped either way
 or_assoc : (x y z : Bool) → (x || (y || z)) ≡ ((x || y) || z)

@@ -11,7 +11,7 @@ use Rattle.lz_gates.proofs.Gate.{value-negated}
 use Rattle.lz_arith.specs.Bits.{bit, word, copies, negations, is_negative, AreBits}
 use Rattle.lz_arith.specs.Shifts.{moved_up, moved_down}
 use Rattle.lz_arith.proofs.Shifting.{word_copies, length-copies, copies_in, word_front}
-use Rattle.lz_arith.proofs.Dividing.{word_negations}
+use Rattle.lz_arith.proofs.DivideLemmas.{word_negations}
 use Rattle.lz_arith.proofs.SignsLemmas.{word_small, right_shift_number}
 
 -- the word of a truth value

@@ -6,9 +6,9 @@ use Rattle.lz_cnf.specs.declared.clause.Lit.{Lit}
 use Rattle.lz_gates.specs.Circuits.{Circuit, Assignment, value, AreLits, Satisfies, Makes}
 use Rattle.lz_gates.proofs.Extending.{makes_then, makes_so, makes_same, still}
 use Rattle.lz_arith.specs.Bits.{bit, word, copies, AreBits}
-use Rattle.lz_arith.proofs.Words.{word_take}
+use Rattle.lz_arith.proofs.Words.{word_take, row_more}
 use Rattle.lz_arith.proofs.Shifting.{word_moved, word_copies}
-use Rattle.lz_arith.proofs.Adding.{are_lits_more}
+use Rattle.lz_arith.proofs.AddLemmas.{are_lits_more}
 
 -- the second summand may be taken modulo the modulus first
 add_mod_right : (s x p : ℕ) → (s + x % p) % p ≡ (s + x) % p
@@ -86,10 +86,6 @@ product_step false l r k p s e = ap (λ (n : ℕ). (n + 0 * (l * k)) % p) e ∙ 
   where
     spread : (l r k : ℕ) → l * r + 0 * (l * k) ≡ l * (r + k * 0)
     spread l r k = grind arith
-
--- one more row has as many gates again
-row_more : (n i : ℕ) → n * i + n ≤ n * (i + 1)
-row_more n i = grind arith
 
 -- one more row multiplies by one more bit
 pub multiplies_more : (start now next : Circuit) (left right sum r : List Lit) (i : ℕ) (d : Lit) → Multiplies start now left right sum i → i < length right

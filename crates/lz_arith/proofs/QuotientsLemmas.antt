@@ -8,7 +8,7 @@ use Rattle.lz_cnf.specs.declared.clause.Lit.{Lit}
 use Rattle.lz_gates.specs.Circuits.{Circuit, Assignment, value, xor, Makes}
 use Rattle.lz_gates.proofs.Extending.{makes_then, makes_so}
 use Rattle.lz_arith.specs.Bits.{bit, word}
-use Rattle.lz_arith.proofs.Dividing.{small_mod}
+use Rattle.lz_arith.proofs.DivideLemmas.{small_mod}
 use Rattle.lz_arith.proofs.Numbers.{negative}
 use Rattle.lz_arith.proofs.SignsLemmas.{word_small, top_is, quotient_number, remainder_number}
 

@@ -9,7 +9,7 @@ use Rattle.lz_gates.specs.Circuits.{Circuit, Assignment, value, IsLit, AreLits, 
 use Rattle.lz_gates.proofs.Extending.{makes_so, still}
 use Rattle.lz_arith.specs.Bits.{word, copies, AreBits}
 use Rattle.lz_arith.proofs.Words.{word_append, word_lt, pow_twice, twice}
-use Rattle.lz_arith.proofs.Adding.{are_lits_more}
+use Rattle.lz_arith.proofs.AddLemmas.{are_lits_more}
 
 -- one more copy
 pub copies_push : (n : ℕ) (lit : Lit) → copies n lit ++ lit ∷ [] ≡ copies (suc n) lit

@@ -10,11 +10,11 @@ use Rattle.lz_gates.specs.Circuits.{Circuit, Assignment, value, IsLit, AreLits, 
 use Rattle.lz_gates.proofs.Extending.{makes_then, makes_so, makes_same, still}
 use Rattle.lz_arith.specs.Bits.{bit, word, copies, AreBits}
 use Rattle.lz_arith.specs.Shifts.{moved_up, moved_down}
-use Rattle.lz_arith.proofs.Words.{word_append, word_take, word_lt, pow_twice}
-use Rattle.lz_arith.proofs.Adding.{are_lits_more}
+use Rattle.lz_arith.proofs.Words.{word_append, word_take, word_lt, pow_twice, row_more}
+use Rattle.lz_arith.proofs.AddLemmas.{are_lits_more}
 use Rattle.lz_arith.proofs.Shifting.{word_split, word_copies, length-copies, copies_in, append_in, word_moved}
 use Rattle.lz_arith.proofs.Numbers.{word_ones, barrel_step}
-use Rattle.lz_arith.proofs.Dividing.{small_mod}
+use Rattle.lz_arith.proofs.DivideLemmas.{small_mod}
 
 -- ---- down by a fixed number of places
 
@@ -155,10 +155,6 @@ shifts_none start S bits amount moved move h k is = record {
       (makes_same start (λ a. word a moved ≡ S a (word a bits) 0) (λ a s. ap (word a) is ∙ sym (move.none a (word a bits) (word_lt a bits))))
       (omega arith) (omega arith) (λ a s p. p);
 }
-
--- one more stage has as many gates again
-row_more : (n i : ℕ) → n * i + n ≤ n * (i + 1)
-row_more n i = grind arith
 
 -- one more stage moves by its power where its bit is 1
 stage_step : (t : Bool) (S : ℕ → ℕ → ℕ) (r m w k p : ℕ) → r ≡ cond t (S m p) m → m ≡ S w k → S (S w k) p ≡ S w (k + p) → r ≡ S w (k + p * bit t)

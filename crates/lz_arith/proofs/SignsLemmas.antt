@@ -18,7 +18,7 @@ use Rattle.lz_arith.specs.Bits.{bit, word, top_flipped, is_negative}
 use Rattle.lz_arith.specs.Shifts.{moved_down}
 use Rattle.lz_arith.proofs.Words.{word_take, word_lt}
 use Rattle.lz_arith.proofs.Loops.{less_at}
-use Rattle.lz_arith.proofs.Dividing.{small_mod}
+use Rattle.lz_arith.proofs.DivideLemmas.{small_mod}
 use Rattle.lz_arith.proofs.Numbers.{flipped, word_flipped, signed_by, signed_order, signed_by_size, negative, size, size_is, with_sign, quotient_by_sizes, remainder_by_sizes}
 
 -- a word of 32 bits

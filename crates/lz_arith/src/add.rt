@@ -1,5 +1,6 @@
 //! Sums of words.
 ghost use Rattle.std.specs.Prelude.{◌≡◌, ℕ, ◌+◌, ◌-◌, ◌*◌, ◌^◌, ◌%◌, ◌<◌, ◌≤◌, IfOk, OnOk, length, if◌then◌else◌};
+ghost use Rattle.lz_cnf.specs.Models.{variable_bound};
 ghost use Rattle.lz_gates.specs.Circuits.{Assignment, value, IsLit, AreLits, Makes};
 ghost use Rattle.lz_arith.specs.Bits.{bit, word, AreBits};
 
@@ -15,7 +16,7 @@ fn full_add(builder: &mut Builder, left: Lit, right: Lit, carry: Lit) -> Result<
     requires left { IsLit builder.old left }
     requires right { IsLit builder.old right }
     requires carry { IsLit builder.old carry }
-    requires room { builder.old.variables + 3 < 2147483648 }
+    requires room { builder.old.variables + 3 < variable_bound }
     ensures sum { IfOk result (λ r. IsLit builder.new r.0) }
     ensures carry { IfOk result (λ r. IsLit builder.new r.1) }
     ensures more { OnOk result (builder.old.variables ≤ builder.new.variables) }
@@ -39,7 +40,7 @@ pub(crate) fn add_with_carry(
     requires left { AreLits builder.old left.now }
     requires right { AreBits builder.old (length left.now) right.now }
     requires carry { IsLit builder.old carry }
-    requires room { builder.old.variables + 3 * length left.now < 2147483648 }
+    requires room { builder.old.variables + 3 * length left.now < variable_bound }
     ensures bits { IfOk result (λ r. AreBits builder.new (length left.now) r.0) }
     ensures carry { IfOk result (λ r. IsLit builder.new r.1) }
     ensures more { OnOk result (builder.old.variables ≤ builder.new.variables) }
@@ -67,7 +68,7 @@ pub(crate) fn add_words(
     requires left { AreLits builder.old left.now }
     requires right { AreBits builder.old (length left.now) right.now }
     requires carry { IsLit builder.old carry }
-    requires room { builder.old.variables + 3 * length left.now < 2147483648 }
+    requires room { builder.old.variables + 3 * length left.now < variable_bound }
     ensures bits { IfOk result (AreBits builder.new (length left.now)) }
     ensures more { OnOk result (builder.old.variables ≤ builder.new.variables) }
     ensures made { IfOk result (λ bits. Makes builder.old builder.new (3 * length left.now) (14 * length left.now)
@@ -86,7 +87,7 @@ pub(crate) fn subtract_words(
 ) -> Result<Bits, Memory>
     requires left { AreLits builder.old left.now }
     requires right { AreBits builder.old (length left.now) right.now }
-    requires room { builder.old.variables + 3 * length left.now < 2147483648 }
+    requires room { builder.old.variables + 3 * length left.now < variable_bound }
     ensures bits { IfOk result (AreBits builder.new (length left.now)) }
     ensures made { IfOk result (λ r. Makes builder.old builder.new (3 * length left.now) (14 * length left.now)
         (λ a. word a r ≡ (word a left.now + (2 ^ length left.now - word a right.now)) % 2 ^ length left.now)) }
@@ -100,7 +101,7 @@ pub(crate) fn subtract_words(
 /// The word with the other sign, modulo 2 to its width.
 pub(crate) fn minus_word(alloc: Global, builder: &mut Builder, bits: &[Lit]) -> Result<Bits, Memory>
     requires bits { AreLits builder.old bits.now }
-    requires room { builder.old.variables + 3 * length bits.now < 2147483648 }
+    requires room { builder.old.variables + 3 * length bits.now < variable_bound }
     ensures bits { IfOk result (AreBits builder.new (length bits.now)) }
     ensures made { IfOk result (λ r. Makes builder.old builder.new (3 * length bits.now) (14 * length bits.now)
         (λ a. word a r ≡ (2 ^ length bits.now - word a bits.now) % 2 ^ length bits.now)) }
@@ -120,7 +121,7 @@ pub(crate) fn minus_where(
 ) -> Result<Bits, Memory>
     requires test { IsLit builder.old test }
     requires bits { AreLits builder.old bits.now }
-    requires room { builder.old.variables + 4 * length bits.now < 2147483648 }
+    requires room { builder.old.variables + 4 * length bits.now < variable_bound }
     ensures bits { IfOk result (AreBits builder.new (length bits.now)) }
     ensures made { IfOk result (λ r. Makes builder.old builder.new (4 * length bits.now) (20 * length bits.now)
         (λ a. word a r ≡ (if value a test then (2 ^ length bits.now - word a bits.now) % 2 ^ length bits.now else word a bits.now))) }

@@ -1,5 +1,6 @@
 //! Operators that work bit by bit.
 ghost use Rattle.std.specs.Prelude.{◌≡◌, ℕ, ◌+◌, ◌*◌, ◌<◌, ◌≤◌, IfOk, length};
+ghost use Rattle.lz_cnf.specs.Models.{variable_bound};
 ghost use Rattle.lz_gates.specs.Circuits.{Assignment, value, IsLit, AreLits, Makes};
 ghost use Rattle.lz_arith.specs.Bits.{word, AreBits};
 ghost use Rattle.lz_arith.specs.Bitwise.{bitwise_value, bitwise_number};
@@ -22,7 +23,7 @@ pub(crate) enum Bitwise {
 pub(crate) fn or_gate(builder: &mut Builder, left: Lit, right: Lit) -> Result<Lit, Memory>
     requires left { IsLit builder.old left }
     requires right { IsLit builder.old right }
-    requires room { builder.old.variables + 1 < 2147483648 }
+    requires room { builder.old.variables + 1 < variable_bound }
     ensures lit { IfOk result (IsLit builder.new) }
     ensures made { IfOk result (λ lit. Makes builder.old builder.new 1 3 (λ a. value a lit ≡ bitwise_value Bitwise.Or (value a left) (value a right))) }
 {
@@ -34,7 +35,7 @@ pub(crate) fn or_gate(builder: &mut Builder, left: Lit, right: Lit) -> Result<Li
 fn bitwise_gate(builder: &mut Builder, kind: Bitwise, left: Lit, right: Lit) -> Result<Lit, Memory>
     requires left { IsLit builder.old left }
     requires right { IsLit builder.old right }
-    requires room { builder.old.variables + 1 < 2147483648 }
+    requires room { builder.old.variables + 1 < variable_bound }
     ensures lit { IfOk result (IsLit builder.new) }
     ensures made { IfOk result (λ lit. Makes builder.old builder.new 1 4 (λ a. value a lit ≡ bitwise_value kind (value a left) (value a right))) }
 {
@@ -55,7 +56,7 @@ pub(crate) fn bitwise_words(
 ) -> Result<Bits, Memory>
     requires left { AreLits builder.old left.now }
     requires right { AreBits builder.old (length left.now) right.now }
-    requires room { builder.old.variables + length left.now < 2147483648 }
+    requires room { builder.old.variables + length left.now < variable_bound }
     ensures bits { IfOk result (AreBits builder.new (length left.now)) }
     ensures made { IfOk result (λ r. Makes builder.old builder.new (length left.now) (4 * length left.now)
         (λ a. word a r ≡ bitwise_number kind (word a left.now) (word a right.now))) }

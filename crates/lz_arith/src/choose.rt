@@ -1,5 +1,6 @@
 //! A choice between words, and a word or 0.
 ghost use Rattle.std.specs.Prelude.{◌≡◌, ℕ, ◌+◌, ◌*◌, ◌^◌, ◌%◌, ◌<◌, ◌≤◌, IfOk, OnOk, length, if◌then◌else◌};
+ghost use Rattle.lz_cnf.specs.Models.{variable_bound};
 ghost use Rattle.lz_gates.specs.Circuits.{Assignment, value, IsLit, AreLits, Makes};
 ghost use Rattle.lz_arith.specs.Bits.{bit, word, AreBits};
 
@@ -20,7 +21,7 @@ pub(crate) fn choose_words(
     requires test { IsLit builder.old test }
     requires yes { AreLits builder.old yes.now }
     requires no { AreBits builder.old (length yes.now) no.now }
-    requires room { builder.old.variables + length yes.now < 2147483648 }
+    requires room { builder.old.variables + length yes.now < variable_bound }
     ensures bits { IfOk result (AreBits builder.new (length yes.now)) }
     ensures made { IfOk result (λ bits. Makes builder.old builder.new (length yes.now) (6 * length yes.now)
         (λ a. word a bits ≡ (if value a test then word a yes.now else word a no.now))) }
@@ -42,7 +43,7 @@ pub(crate) fn mask_word(
 ) -> Result<Bits, Memory>
     requires test { IsLit builder.old test }
     requires lits { AreLits builder.old lits.now }
-    requires room { builder.old.variables + length lits.now < 2147483648 }
+    requires room { builder.old.variables + length lits.now < variable_bound }
     ensures bits { IfOk result (AreBits builder.new (length lits.now)) }
     ensures made { IfOk result (λ bits. Makes builder.old builder.new (length lits.now) (3 * length lits.now)
         (λ a. word a bits ≡ bit (value a test) * word a lits.now)) }

@@ -1,6 +1,7 @@
 //! Equality and order of words.
 ghost use Rattle.std.specs.Prelude.{◌≡◌, ℕ, ◌+◌, ◌*◌, ◌^◌, ◌%◌, ◌<◌, ◌≤◌, IfOk, OnOk, length, nat_lt, not, ◌==◌, int_lt};
 ghost use Rattle.lz_base.specs.Words.{signed};
+ghost use Rattle.lz_cnf.specs.Models.{variable_bound};
 ghost use Rattle.lz_gates.specs.Circuits.{Assignment, value, xor, choice, IsLit, AreLits, Makes};
 ghost use Rattle.lz_arith.specs.Bits.{bit, word, AreBits};
 
@@ -21,7 +22,7 @@ pub(crate) fn differ(
 ) -> Result<Lit, Memory>
     requires left { AreLits builder.old left.now }
     requires right { AreBits builder.old (length left.now) right.now }
-    requires room { builder.old.variables + length left.now + 1 < 2147483648 }
+    requires room { builder.old.variables + length left.now + 1 < variable_bound }
     ensures lit { IfOk result (IsLit builder.new) }
     ensures made { IfOk result (λ lit. Makes builder.old builder.new (length left.now + 1) (5 * length left.now + 1)
         (λ a. value a lit ≡ not (word a left.now == word a right.now))) }
@@ -36,7 +37,7 @@ fn less_bit(builder: &mut Builder, left: Lit, right: Lit, lower: Lit) -> Result<
     requires left { IsLit builder.old left }
     requires right { IsLit builder.old right }
     requires lower { IsLit builder.old lower }
-    requires room { builder.old.variables + 2 < 2147483648 }
+    requires room { builder.old.variables + 2 < variable_bound }
     ensures lit { IfOk result (IsLit builder.new) }
     ensures made { IfOk result (λ lit. Makes builder.old builder.new 2 10 (λ a. value a lit ≡ choice (xor (value a left) (value a right)) (value a right) (value a lower))) }
 {
@@ -49,7 +50,7 @@ fn less_bit(builder: &mut Builder, left: Lit, right: Lit, lower: Lit) -> Result<
 pub(crate) fn less_than(builder: &mut Builder, left: &[Lit], right: &[Lit]) -> Result<Lit, Memory>
     requires left { AreLits builder.old left.now }
     requires right { AreBits builder.old (length left.now) right.now }
-    requires room { builder.old.variables + 2 * length left.now < 2147483648 }
+    requires room { builder.old.variables + 2 * length left.now < variable_bound }
     ensures lit { IfOk result (IsLit builder.new) }
     ensures made { IfOk result (λ lit. Makes builder.old builder.new (2 * length left.now) (10 * length left.now)
         (λ a. value a lit ≡ nat_lt (word a left.now) (word a right.now))) }
@@ -70,7 +71,7 @@ fn signed_less(
 ) -> Result<Lit, Memory>
     requires left { AreBits builder.old 32 left.now }
     requires right { AreBits builder.old 32 right.now }
-    requires room { builder.old.variables + 64 < 2147483648 }
+    requires room { builder.old.variables + 64 < variable_bound }
     ensures lit { IfOk result (IsLit builder.new) }
     ensures made { IfOk result (λ lit. Makes builder.old builder.new 64 320
         (λ a. value a lit ≡ int_lt (signed IntType.Int (word a left.now)) (signed IntType.Int (word a right.now)))) }
@@ -91,7 +92,7 @@ pub(crate) fn less(
 ) -> Result<Lit, Memory>
     requires left { AreBits builder.old 32 left.now }
     requires right { AreBits builder.old 32 right.now }
-    requires room { builder.old.variables + 64 < 2147483648 }
+    requires room { builder.old.variables + 64 < variable_bound }
     ensures lit { IfOk result (IsLit builder.new) }
     ensures made { IfOk result (λ lit. Makes builder.old builder.new 64 320
         (λ a. value a lit ≡ int_lt (signed t (word a left.now)) (signed t (word a right.now)))) }

@@ -1,6 +1,7 @@
 //! Quotients and remainders of words (restoring division), without and with sign.
 ghost use Rattle.std.specs.Prelude.{◌≡◌, ◌++◌, ◌∷◌, [], ℕ, ◌+◌, ◌-◌, ◌*◌, ◌^◌, ◌/◌, ◌%◌, ◌<◌, ◌≤◌, IfOk, OnOk, length, ◌==◌, if◌then◌else◌, int_div, int_rem};
 ghost use Rattle.lz_base.specs.Words.{signed, wrapped, binary_value};
+ghost use Rattle.lz_cnf.specs.Models.{variable_bound};
 ghost use Rattle.lz_gates.specs.Circuits.{Assignment, value, IsLit, AreLits, Makes};
 ghost use Rattle.lz_arith.specs.Bits.{bit, word, negations, AreBits};
 
@@ -25,7 +26,7 @@ fn divide_step(
     requires divisor { AreBits builder.old (length rest.now) divisor.now }
     requires digit { IsLit builder.old digit }
     requires wide { length rest.now < 1048576 }
-    requires room { builder.old.variables + 4 * length rest.now + 3 < 2147483648 }
+    requires room { builder.old.variables + 4 * length rest.now + 3 < variable_bound }
     ensures fits { IfOk result (λ r. IsLit builder.new r.0) }
     ensures bits { IfOk result (λ r. AreBits builder.new (length rest.now) r.1) }
     ensures made { IfOk result (λ r. Makes builder.old builder.new (4 * length rest.now + 3) (20 * length rest.now + 14)
@@ -53,7 +54,7 @@ pub(crate) fn divide_words(
     requires left { AreLits builder.old left.now }
     requires divisor { AreBits builder.old (length left.now) divisor.now }
     requires wide { length left.now < 1048576 }
-    requires room { builder.old.variables + (4 * length left.now + 3) * length left.now < 2147483648 }
+    requires room { builder.old.variables + (4 * length left.now + 3) * length left.now < variable_bound }
     ensures quotient { IfOk result (λ r. AreBits builder.new (length left.now) r.0) }
     ensures rest { IfOk result (λ r. AreBits builder.new (length left.now) r.1) }
     ensures made { IfOk result (λ r. Makes builder.old builder.new ((4 * length left.now + 3) * length left.now) ((20 * length left.now + 14) * length left.now)
@@ -81,7 +82,7 @@ fn signed_quotient(
 ) -> Result<Bits, Memory>
     requires left { AreBits builder.old 32 left.now }
     requires divisor { AreBits builder.old 32 divisor.now }
-    requires room { builder.old.variables + 4577 < 2147483648 }
+    requires room { builder.old.variables + 4577 < variable_bound }
     ensures bits { IfOk result (AreBits builder.new 32) }
     ensures made { IfOk result (λ r. Makes builder.old builder.new 4577 22852
         (λ a. 0 < word a divisor.now → word a r ≡ wrapped (int_div (signed IntType.Int (word a left.now)) (signed IntType.Int (word a divisor.now))))) }
@@ -103,7 +104,7 @@ fn signed_remainder(
 ) -> Result<Bits, Memory>
     requires left { AreBits builder.old 32 left.now }
     requires divisor { AreBits builder.old 32 divisor.now }
-    requires room { builder.old.variables + 4577 < 2147483648 }
+    requires room { builder.old.variables + 4577 < variable_bound }
     ensures bits { IfOk result (AreBits builder.new 32) }
     ensures made { IfOk result (λ r. Makes builder.old builder.new 4577 22852
         (λ a. 0 < word a divisor.now → word a r ≡ wrapped (int_rem (signed IntType.Int (word a left.now)) (signed IntType.Int (word a divisor.now))))) }
@@ -124,7 +125,7 @@ fn unless_zero(
 ) -> Result<Bits, Memory>
     requires divisor { AreBits builder.old 32 divisor.now }
     requires bits { AreBits builder.old 32 bits.now }
-    requires room { builder.old.variables + 33 < 2147483648 }
+    requires room { builder.old.variables + 33 < variable_bound }
     ensures bits { IfOk result (AreBits builder.new 32) }
     ensures made { IfOk result (λ r. Makes builder.old builder.new 33 129
         (λ a. word a r ≡ (if word a divisor.now == 0 then 0 else word a bits.now))) }
@@ -143,7 +144,7 @@ fn plain_quotient(
 ) -> Result<Bits, Memory>
     requires left { AreBits builder.old 32 left.now }
     requires divisor { AreBits builder.old 32 divisor.now }
-    requires room { builder.old.variables + 4577 < 2147483648 }
+    requires room { builder.old.variables + 4577 < variable_bound }
     ensures bits { IfOk result (AreBits builder.new 32) }
     ensures made { IfOk result (λ r. Makes builder.old builder.new 4577 22852
         (λ a. 0 < word a divisor.now → word a r ≡ wrapped (int_div (signed IntType.Unsigned (word a left.now)) (signed IntType.Unsigned (word a divisor.now))))) }
@@ -162,7 +163,7 @@ fn quotient_of_kind(
 ) -> Result<Bits, Memory>
     requires left { AreBits builder.old 32 left.now }
     requires divisor { AreBits builder.old 32 divisor.now }
-    requires room { builder.old.variables + 4577 < 2147483648 }
+    requires room { builder.old.variables + 4577 < variable_bound }
     ensures bits { IfOk result (AreBits builder.new 32) }
     ensures made { IfOk result (λ r. Makes builder.old builder.new 4577 22852
         (λ a. 0 < word a divisor.now → word a r ≡ wrapped (int_div (signed t (word a left.now)) (signed t (word a divisor.now))))) }
@@ -183,7 +184,7 @@ pub(crate) fn quotient_word(
 ) -> Result<Bits, Memory>
     requires left { AreBits builder.old 32 left.now }
     requires divisor { AreBits builder.old 32 divisor.now }
-    requires room { builder.old.variables + 4610 < 2147483648 }
+    requires room { builder.old.variables + 4610 < variable_bound }
     ensures bits { IfOk result (AreBits builder.new 32) }
     ensures made { IfOk result (λ r. Makes builder.old builder.new 4610 22981 (λ a. word a r ≡ binary_value Binary.Div (word a left.now) (word a divisor.now) t)) }
 {
@@ -201,7 +202,7 @@ fn plain_remainder(
 ) -> Result<Bits, Memory>
     requires left { AreBits builder.old 32 left.now }
     requires divisor { AreBits builder.old 32 divisor.now }
-    requires room { builder.old.variables + 4577 < 2147483648 }
+    requires room { builder.old.variables + 4577 < variable_bound }
     ensures bits { IfOk result (AreBits builder.new 32) }
     ensures made { IfOk result (λ r. Makes builder.old builder.new 4577 22852
         (λ a. 0 < word a divisor.now → word a r ≡ wrapped (int_rem (signed IntType.Unsigned (word a left.now)) (signed IntType.Unsigned (word a divisor.now))))) }
@@ -220,7 +221,7 @@ fn remainder_of_kind(
 ) -> Result<Bits, Memory>
     requires left { AreBits builder.old 32 left.now }
     requires divisor { AreBits builder.old 32 divisor.now }
-    requires room { builder.old.variables + 4577 < 2147483648 }
+    requires room { builder.old.variables + 4577 < variable_bound }
     ensures bits { IfOk result (AreBits builder.new 32) }
     ensures made { IfOk result (λ r. Makes builder.old builder.new 4577 22852
         (λ a. 0 < word a divisor.now → word a r ≡ wrapped (int_rem (signed t (word a left.now)) (signed t (word a divisor.now))))) }
@@ -241,7 +242,7 @@ pub(crate) fn remainder_word(
 ) -> Result<Bits, Memory>
     requires left { AreBits builder.old 32 left.now }
     requires divisor { AreBits builder.old 32 divisor.now }
-    requires room { builder.old.variables + 4610 < 2147483648 }
+    requires room { builder.old.variables + 4610 < variable_bound }
     ensures bits { IfOk result (AreBits builder.new 32) }
     ensures made { IfOk result (λ r. Makes builder.old builder.new 4610 22981 (λ a. word a r ≡ binary_value Binary.Rem (word a left.now) (word a divisor.now) t)) }
 {

@@ -1,5 +1,6 @@
 //! The truth test of a word.
 ghost use Rattle.std.specs.Prelude.{◌≡◌, ◌∷◌, ℕ, ◌+◌, ◌*◌, ◌<◌, ◌≤◌, IfOk, OnOk, length, not, nat_eq, ◌==◌, ◌++◌, [], if◌then◌else◌};
+ghost use Rattle.lz_cnf.specs.Models.{variable_bound};
 ghost use Rattle.lz_gates.specs.Circuits.{Assignment, value, IsLit, AreLits, Makes};
 ghost use Rattle.lz_arith.specs.Bits.{word};
 ghost use Rattle.lz_arith.specs.Open.{KeepsTest};
@@ -40,7 +41,7 @@ fn open_literals(alloc: Global, on: Lit, off: Lit, bits: &[Lit]) -> Result<Bits,
 /// Whether the word is not 0, by a new variable: one fresh literal, a clause for each bit, and one that holds them all.
 fn new_test(alloc: Global, builder: &mut Builder, bits: &[Lit]) -> Result<Lit, Memory>
     requires bits { AreLits builder.old bits.now }
-    requires room { builder.old.variables + 1 < 2147483648 }
+    requires room { builder.old.variables + 1 < variable_bound }
     ensures lit { IfOk result (IsLit builder.new) }
     ensures made { IfOk result (λ lit. Makes builder.old builder.new 1 (length bits.now + 1)
         (λ a. value a lit ≡ not (nat_eq (word a bits.now) 0))) }
@@ -57,7 +58,7 @@ fn new_test(alloc: Global, builder: &mut Builder, bits: &[Lit]) -> Result<Lit, M
 /// Whether the word is not 0. It takes no variable and no clause where at most one literal is open.
 pub(crate) fn truth_test(alloc: Global, builder: &mut Builder, bits: &[Lit]) -> Result<Lit, Memory>
     requires bits { AreLits builder.old bits.now }
-    requires room { builder.old.variables + 1 < 2147483648 }
+    requires room { builder.old.variables + 1 < variable_bound }
     ensures lit { IfOk result (IsLit builder.new) }
     ensures made { IfOk result (λ lit. Makes builder.old builder.new 1 (length bits.now + 1)
         (λ a. value a lit ≡ not (nat_eq (word a bits.now) 0))) }

@@ -1,6 +1,6 @@
 //! The word operators of the checked language as circuits.
 ghost use Rattle.std.specs.Prelude.{◌≡◌, ℕ, ◌+◌, ◌*◌, ◌<◌, ◌≤◌, true, ◌^◌, ◌%◌, ◌&&◌, ◌||◌, IfOk, OnOk, OnErr, IsErr, length, if◌then◌else◌, not, ◌==◌, int_lt, false};
-ghost use Rattle.lz_cnf.specs.Models.{negated};
+ghost use Rattle.lz_cnf.specs.Models.{negated, variable_bound};
 ghost use Rattle.lz_base.specs.Words.{truth, is_true, signed, unary_value, binary_value, converted};
 ghost use Rattle.lz_gates.specs.Circuits.{Assignment, Satisfies, value, IsLit, AreLits, Makes};
 ghost use Rattle.lz_arith.specs.Bits.{word, AreBits, is_negative};
@@ -35,7 +35,7 @@ fn truth_word(alloc: Global, builder: &Builder, lit: Lit) -> Result<Bits, Memory
 /// `!`: whether the word is 0.
 fn not_word(alloc: Global, builder: &mut Builder, bits: &[Lit]) -> Result<Bits, Memory>
     requires bits { AreBits builder.old 32 bits.now }
-    requires room { builder.old.variables + 1 < 2147483648 }
+    requires room { builder.old.variables + 1 < variable_bound }
     ensures bits { IfOk result (AreBits builder.new 32) }
     ensures made { IfOk result (λ r. Makes builder.old builder.new 1 33 (λ a. word a r ≡ truth (word a bits.now == 0))) }
 {
@@ -53,7 +53,7 @@ fn unary_word(
     bits: &[Lit],
 ) -> Result<Bits, Memory>
     requires bits { AreBits builder.old 32 bits.now }
-    requires room { builder.old.variables + unary_variables op < 2147483648 }
+    requires room { builder.old.variables + unary_variables op < variable_bound }
     ensures bits { IfOk result (AreBits builder.new 32) }
     ensures made { IfOk result (λ r. Makes builder.old builder.new (unary_variables op) (unary_clauses op) (λ a. word a r ≡ unary_value op (word a bits.now) t)) }
 {
@@ -81,7 +81,7 @@ fn sum_word(
 ) -> Result<Bits, Memory>
     requires left { AreBits builder.old 32 left.now }
     requires right { AreBits builder.old 32 right.now }
-    requires room { builder.old.variables + 96 < 2147483648 }
+    requires room { builder.old.variables + 96 < variable_bound }
     ensures bits { IfOk result (AreBits builder.new 32) }
     ensures made { IfOk result (λ r. Makes builder.old builder.new 96 448
         (λ a. word a r ≡ (word a left.now + word a right.now) % 2 ^ 32)) }
@@ -102,7 +102,7 @@ fn order_word(
 ) -> Result<Bits, Memory>
     requires left { AreBits builder.old 32 left.now }
     requires right { AreBits builder.old 32 right.now }
-    requires room { builder.old.variables + 64 < 2147483648 }
+    requires room { builder.old.variables + 64 < variable_bound }
     ensures bits { IfOk result (AreBits builder.new 32) }
     ensures made { IfOk result (λ r. Makes builder.old builder.new 64 320
         (λ a. word a r ≡ truth (if turned then not (int_lt (signed t (word a left.now)) (signed t (word a right.now))) else int_lt (signed t (word a left.now)) (signed t (word a right.now))))) }
@@ -123,7 +123,7 @@ fn equality_word(
 ) -> Result<Bits, Memory>
     requires left { AreBits builder.old 32 left.now }
     requires right { AreBits builder.old 32 right.now }
-    requires room { builder.old.variables + 33 < 2147483648 }
+    requires room { builder.old.variables + 33 < variable_bound }
     ensures bits { IfOk result (AreBits builder.new 32) }
     ensures made { IfOk result (λ r. Makes builder.old builder.new 33 161
         (λ a. word a r ≡ truth (if turned then not (word a left.now == word a right.now) else (word a left.now == word a right.now)))) }
@@ -150,7 +150,7 @@ fn both_word(
 ) -> Result<Bits, Memory>
     requires left { AreBits builder.old 32 left.now }
     requires right { AreBits builder.old 32 right.now }
-    requires room { builder.old.variables + 3 < 2147483648 }
+    requires room { builder.old.variables + 3 < variable_bound }
     ensures bits { IfOk result (AreBits builder.new 32) }
     ensures made { IfOk result (λ r. Makes builder.old builder.new 3 69
         (λ a. word a r ≡ truth (is_true (word a left.now) && is_true (word a right.now)))) }
@@ -171,7 +171,7 @@ fn either_word(
 ) -> Result<Bits, Memory>
     requires left { AreBits builder.old 32 left.now }
     requires right { AreBits builder.old 32 right.now }
-    requires room { builder.old.variables + 3 < 2147483648 }
+    requires room { builder.old.variables + 3 < variable_bound }
     ensures bits { IfOk result (AreBits builder.new 32) }
     ensures made { IfOk result (λ r. Makes builder.old builder.new 3 69
         (λ a. word a r ≡ truth (is_true (word a left.now) || is_true (word a right.now)))) }
@@ -193,7 +193,7 @@ fn left_shift_word(
 ) -> Result<Bits, Memory>
     requires left { AreBits builder.old 32 left.now }
     requires right { AreBits builder.old 32 right.now }
-    requires room { builder.old.variables + 160 < 2147483648 }
+    requires room { builder.old.variables + 160 < variable_bound }
     ensures bits { IfOk result (AreBits builder.new 32) }
     ensures made { IfOk result (λ r. Makes builder.old builder.new 160 960
         (λ a. word a r ≡ binary_value Binary.Shl (word a left.now) (word a right.now) t)) }
@@ -226,7 +226,7 @@ fn right_shift_word(
 ) -> Result<Bits, Memory>
     requires left { AreBits builder.old 32 left.now }
     requires right { AreBits builder.old 32 right.now }
-    requires room { builder.old.variables + 160 < 2147483648 }
+    requires room { builder.old.variables + 160 < variable_bound }
     ensures bits { IfOk result (AreBits builder.new 32) }
     ensures made { IfOk result (λ r. Makes builder.old builder.new 160 960
         (λ a. word a r ≡ binary_value Binary.Shr (word a left.now) (word a right.now) t)) }
@@ -248,7 +248,7 @@ fn binary_word(
 ) -> Result<Bits, Memory>
     requires left { AreBits builder.old 32 left.now }
     requires right { AreBits builder.old 32 right.now }
-    requires room { builder.old.variables + binary_variables op < 2147483648 }
+    requires room { builder.old.variables + binary_variables op < variable_bound }
     ensures bits { IfOk result (AreBits builder.new 32) }
     ensures made { IfOk result (λ r. Makes builder.old builder.new (binary_variables op) (binary_clauses op) (λ a. word a r ≡ binary_value op (word a left.now) (word a right.now) t)) }
 {
@@ -295,7 +295,7 @@ pub fn unary_bits(
     a: &Bits,
 ) -> Result<Bits, Memory>
     requires bits { AreBits builder.old (width t) a.now }
-    requires room { builder.old.variables + unary_variables op < 2147483648 }
+    requires room { builder.old.variables + unary_variables op < variable_bound }
     ensures bits { IfOk result (AreBits builder.new (width t)) }
     ensures made { IfOk result (λ r. Makes builder.old builder.new (unary_variables op) (unary_clauses op) (λ m. word m r ≡ unary_value op (word m a.now) t)) }
     ensures working { OnOk result (builder.new.spent ≡ false) }
@@ -320,7 +320,7 @@ pub fn binary_bits(
 ) -> Result<Bits, Memory>
     requires left { AreBits builder.old (width t) a.now }
     requires right { AreBits builder.old (width t) b.now }
-    requires room { builder.old.variables + binary_variables op < 2147483648 }
+    requires room { builder.old.variables + binary_variables op < variable_bound }
     ensures bits { IfOk result (AreBits builder.new (width t)) }
     ensures made { IfOk result (λ r. Makes builder.old builder.new (binary_variables op) (binary_clauses op) (λ m. word m r ≡ binary_value op (word m a.now) (word m b.now) t)) }
     ensures working { OnOk result (builder.new.spent ≡ false) }
@@ -368,7 +368,7 @@ pub fn choose_bits(
     requires test { IsLit builder.old test }
     requires yes { AreLits builder.old yes.now }
     requires no { AreBits builder.old (length yes.now) no.now }
-    requires room { builder.old.variables + choice_variables (length yes.now) < 2147483648 }
+    requires room { builder.old.variables + choice_variables (length yes.now) < variable_bound }
     ensures bits { IfOk result (AreBits builder.new (length yes.now)) }
     ensures made { IfOk result (λ r. Makes builder.old builder.new (choice_variables (length yes.now)) (choice_clauses (length yes.now))
         (λ m. word m r ≡ (if value m test then word m yes.now else word m no.now))) }
@@ -386,7 +386,7 @@ pub fn choose_bits(
 /// The literal that says whether a word is not 0.
 pub fn truth_bit(alloc: Global, builder: &mut Builder, a: &Bits) -> Result<Lit, Memory>
     requires bits { AreLits builder.old a.now }
-    requires room { builder.old.variables + test_variables < 2147483648 }
+    requires room { builder.old.variables + test_variables < variable_bound }
     ensures lit { IfOk result (IsLit builder.new) }
     ensures made { IfOk result (λ lit. Makes builder.old builder.new test_variables (test_clauses (length a.now)) (λ m. value m lit ≡ is_true (word m a.now))) }
     ensures working { OnOk result (builder.new.spent ≡ false) }

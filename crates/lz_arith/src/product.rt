@@ -1,5 +1,6 @@
 //! Products of words.
 ghost use Rattle.std.specs.Prelude.{◌≡◌, ℕ, ◌+◌, ◌-◌, ◌*◌, ◌^◌, ◌%◌, ◌<◌, ◌≤◌, IfOk, OnOk, length};
+ghost use Rattle.lz_cnf.specs.Models.{variable_bound};
 ghost use Rattle.lz_gates.specs.Circuits.{Assignment, value, IsLit, AreLits, Makes};
 ghost use Rattle.lz_arith.specs.Bits.{bit, word, AreBits};
 
@@ -24,7 +25,7 @@ fn product_row(
     requires sum { AreBits builder.old (length left.now) sum.now }
     requires digit { IsLit builder.old digit }
     requires place { place ≤ length left.now }
-    requires room { builder.old.variables + 4 * length left.now < 2147483648 }
+    requires room { builder.old.variables + 4 * length left.now < variable_bound }
     ensures bits { IfOk result (AreBits builder.new (length left.now)) }
     ensures made { IfOk result (λ r. Makes builder.old builder.new (4 * length left.now) (17 * length left.now)
         (λ a. word a r ≡ (word a sum.now + bit (value a digit) * (word a left.now * 2 ^ place)) % 2 ^ length left.now)) }
@@ -45,7 +46,7 @@ pub(crate) fn multiply(
 ) -> Result<Bits, Memory>
     requires left { AreLits builder.old left.now }
     requires right { AreBits builder.old (length left.now) right.now }
-    requires room { builder.old.variables + 4 * length left.now * length left.now < 2147483648 }
+    requires room { builder.old.variables + 4 * length left.now * length left.now < variable_bound }
     ensures bits { IfOk result (AreBits builder.new (length left.now)) }
     ensures made { IfOk result (λ r. Makes builder.old builder.new (4 * length left.now * length left.now) (17 * length left.now * length left.now)
         (λ a. word a r ≡ (word a left.now * word a right.now) % 2 ^ length left.now)) }

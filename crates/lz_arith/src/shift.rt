@@ -1,5 +1,6 @@
 //! Shifts of words by words (barrel shifters).
 ghost use Rattle.std.specs.Prelude.{◌≡◌, ℕ, ◌+◌, ◌-◌, ◌*◌, ◌^◌, ◌%◌, ◌<◌, ◌≤◌, ◌++◌, IfOk, OnOk, length, take, if◌then◌else◌};
+ghost use Rattle.lz_cnf.specs.Models.{variable_bound};
 ghost use Rattle.lz_gates.specs.Circuits.{Assignment, value, IsLit, AreLits, Makes};
 ghost use Rattle.lz_arith.specs.Bits.{bit, word, copies, AreBits};
 ghost use Rattle.lz_arith.specs.Shifts as moved;
@@ -22,7 +23,7 @@ fn stage_up(
     requires test { IsLit builder.old test }
     requires bits { AreLits builder.old bits.now }
     requires within { by ≤ length bits.now }
-    requires room { builder.old.variables + length bits.now < 2147483648 }
+    requires room { builder.old.variables + length bits.now < variable_bound }
     ensures bits { IfOk result (AreBits builder.new (length bits.now)) }
     ensures made { IfOk result (λ r. Makes builder.old builder.new (length bits.now) (6 * length bits.now)
         (λ a. word a r ≡ (if value a test then moved.moved_up (2 ^ length bits.now) (word a bits.now) by else word a bits.now))) }
@@ -46,7 +47,7 @@ fn stage_down(
     requires fill { IsLit builder.old fill }
     requires bits { AreLits builder.old bits.now }
     requires within { by ≤ length bits.now }
-    requires room { builder.old.variables + length bits.now < 2147483648 }
+    requires room { builder.old.variables + length bits.now < variable_bound }
     ensures bits { IfOk result (AreBits builder.new (length bits.now)) }
     ensures made { IfOk result (λ r. Makes builder.old builder.new (length bits.now) (6 * length bits.now)
         (λ a. word a r ≡ (if value a test then moved.moved_down (2 ^ length bits.now) (value a fill) (word a bits.now) by else word a bits.now))) }
@@ -66,7 +67,7 @@ pub(crate) fn shift_up(
     requires bits { AreLits builder.old bits.now }
     requires amount { AreLits builder.old amount.now }
     requires within { 2 ^ length amount.now ≤ length bits.now }
-    requires room { builder.old.variables + length bits.now * length amount.now < 2147483648 }
+    requires room { builder.old.variables + length bits.now * length amount.now < variable_bound }
     ensures bits { IfOk result (AreBits builder.new (length bits.now)) }
     ensures made { IfOk result (λ r. Makes builder.old builder.new (length bits.now * length amount.now) (6 * length bits.now * length amount.now)
         (λ a. word a r ≡ moved.moved_up (2 ^ length bits.now) (word a bits.now) (word a amount.now))) }
@@ -93,7 +94,7 @@ pub(crate) fn shift_down(
     requires bits { AreLits builder.old bits.now }
     requires amount { AreLits builder.old amount.now }
     requires within { 2 ^ length amount.now ≤ length bits.now }
-    requires room { builder.old.variables + length bits.now * length amount.now < 2147483648 }
+    requires room { builder.old.variables + length bits.now * length amount.now < variable_bound }
     ensures bits { IfOk result (AreBits builder.new (length bits.now)) }
     ensures made { IfOk result (λ r. Makes builder.old builder.new (length bits.now * length amount.now) (6 * length bits.now * length amount.now)
         (λ a. word a r ≡ moved.moved_down (2 ^ length bits.now) (value a fill) (word a bits.now) (word a amount.now))) }

@@ -1,4 +1,5 @@
 ghost use Rattle.std.specs.Prelude.{◌≡◌, ◌+◌, ◌<◌, ◌≤◌, IfOk, OnOk};
+ghost use Rattle.lz_cnf.specs.Models.{variable_bound};
 ghost use Rattle.lz_gates.specs.Circuits.{IsLit};
 ghost use Rattle.lz_arith.specs.Bits.{AreBits};
 
@@ -10,7 +11,7 @@ use std::test::Fail;
 
 /// A word of fresh literals.
 fn fresh_word(alloc: Global, builder: &mut Builder) -> Result<Bits, Memory>
-    requires room { builder.old.variables + 32 < 2147483648 }
+    requires room { builder.old.variables + 32 < variable_bound }
     ensures bits { IfOk result (AreBits builder.new 32) }
     ensures more { OnOk result (builder.new.variables ≡ builder.old.variables + 32) }
 {

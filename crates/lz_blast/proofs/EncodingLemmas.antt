@@ -1,15 +1,15 @@
 -- Words of nodes and inputs, and what one more circuit says of them.
-use Rattle.std.proofs.Common.{◌≡◌, ℕ, zero, suc, ◌+◌, ◌*◌, ◌^◌, ◌/◌, ◌%◌, ◌<◌, ◌≤◌, Bool, true, false, ◌||◌, cond, eqb, List, [], ◌∷◌, ◌++◌, length, get_or, set, slice_index, refl, sym, ◌∙◌, ap, subst, arith}
+use Rattle.std.proofs.Common.{◌≡◌, ℕ, zero, suc, ◌+◌, ◌*◌, ◌^◌, ◌/◌, ◌%◌, ◌<◌, ◌≤◌, Bool, true, false, eqb, List, [], ◌∷◌, ◌++◌, length, get_or, set, slice_index, refl, sym, ◌∙◌, ap, subst, arith}
 use Rattle.std.proofs.Math.Nat.{pow-suc}
 use Rattle.std.proofs.lemmas.List.{get_or-set_same, get_or-set_other}
-use Rattle.std.proofs.lemmas.Bool.{eqb-true, eqb-false}
-use Rattle.std.proofs.lemmas.Bool.Decides.{nat_tests}
+use Rattle.std.proofs.lemmas.Bool.{eqb-true, eqb-false, or_left}
+use Rattle.std.proofs.Math.Bool.{or-false}
 use Rattle.lz_cnf.specs.declared.clause.Lit.{Lit}
 use Rattle.lz_gates.specs.Circuits.{Circuit, Assignment, value, clause_value, Satisfies, Agree, AreLits, IsCircuit, Extends, first_clauses}
 use Rattle.lz_gates.proofs.Extending.{value_agrees, satisfies_agrees, satisfies_back, still, agree_refl, agree_trans, each_model_once}
-use Rattle.lz_gates.proofs.Gate.{value-positive}
+use Rattle.lz_gates.proofs.Gate.{value-positive, put, put_same, put_below}
 use Rattle.lz_arith.specs.Bits.{bit, word, AreBits}
-use Rattle.lz_arith.proofs.Adding.{are_lits_more}
+use Rattle.lz_arith.proofs.AddLemmas.{are_lits_more}
 use Rattle.lz_blast.specs.Encoding.{words, fresh_word, input_at, Reads, AreInputs, Encodes}
 
 -- a word is settled by the variables of its literals
@@ -67,19 +67,6 @@ encodes_node old new inputs nodes values w f circuit h extends says = record {
 }
 
 -- ---- an input
-
--- the assignment with another value at n
-abbrev put : Assignment → ℕ → Bool → Assignment
-put a n v x = cond (eqb x n) v (a x)
-
--- it has that value there
-put_same : (a : Assignment) (n : ℕ) (v : Bool) → put a n v n ≡ v
-put_same a n v = grind (arith, nat_tests)
-
--- and agrees below
-put_below : (a : Assignment) (n : ℕ) (v : Bool) → Agree n a (put a n v)
-unfolding Agree
-put_below a n v x lt = grind (arith, nat_tests)
 
 -- two that agree below n + 1 agree at n
 agree_at : (n : ℕ) (a b : Assignment) → Agree (n + 1) a b → a n ≡ b n
@@ -218,16 +205,6 @@ encodes_input old new inputs nodes values number w circuit h lt none more same i
 
 -- ---- the start
 
--- one of two is true where the first is
-or_some : (x : Bool) → x ≡ true → (x || false) ≡ true
-or_some true h = refl
-or_some false h = h
-
--- one of two is true where the second is false and some is true
-or_none : (x : Bool) → (x || false) ≡ true → x ≡ true
-or_none true h = refl
-or_none false h = h
-
 -- a new builder encodes no node, where no input is read
 pub encodes_new : (start : Circuit) (inputs : List (List Lit)) → start.variables ≡ 1 → start.clauses ≡ first_clauses → ((i : ℕ) → length (input_at inputs i) ≡ 0) → Encodes start inputs [] (λ v. [])
 unfolding Satisfies clause_value Reads AreInputs Agree
@@ -235,13 +212,13 @@ encodes_new start inputs one clauses none = record {
   inputs_in = λ i some. absurd (let z = none i in omega arith);
   some = λ v range. (
     (λ x. true),
-    subst (λ (cs : List (List Lit)). Satisfies (λ x. true) cs) (sym clauses) (or_some _ (value-positive (λ x. true) (record { 0 = 0 }) 0 refl), tt),
+    subst (λ (cs : List (List Lit)). Satisfies (λ x. true) cs) (sym clauses) (or_left _ false (value-positive (λ x. true) (record { 0 = 0 }) 0 refl), tt),
     (λ i some. absurd (let z = none i in omega arith)),
   );
   once = λ v a b s t r q x lt.
       let at : x ≡ 0 = omega arith in
       let here : (c : Assignment) → Satisfies c start.clauses → c 0 ≡ true =
-      λ c u. sym (value-positive c (record { 0 = 0 }) 0 refl) ∙ or_none _ ((subst (λ (cs : List (List Lit)). Satisfies c cs) clauses u).0) in
+      λ c u. sym (value-positive c (record { 0 = 0 }) 0 refl) ∙ sym (or-false _) ∙ ((subst (λ (cs : List (List Lit)). Satisfies c cs) clauses u).0) in
       ap a at ∙ here a s ∙ sym (here b t) ∙ ap b (sym at);
   says = λ v a s r. refl;
 }

@@ -2,7 +2,7 @@ pub mod EncodingLemmas
 pub mod StepsLemmas
 pub mod CountsLemmas
 pub mod WordsMade
-pub mod AddsLemmas
-pub mod DecidesLemmas
+pub mod NodeLemmas
+pub mod FormulasLemmas
 pub mod TurnsLemmas
 pub mod ExampleLemmas

@@ -2,6 +2,7 @@
 ghost use Rattle.std.specs.Prelude.{◌≡◌, ◌+◌, ◌<◌, ℕ, OnOk, IfOk, length};
 ghost use Rattle.std.specs.List.{All};
 ghost use Rattle.lz_base.specs.Words.{value_bound};
+ghost use Rattle.lz_cnf.specs.Models.{variable_bound};
 ghost use Rattle.lz_arith.specs.Bits.{AreBits};
 ghost use Rattle.lz_ssa.specs.declared.node.Node.TheVariants as nodes;
 ghost use Rattle.lz_ssa.specs.NodeValues.{IsNodeOf};
@@ -43,7 +44,7 @@ fn add_unary(
 ) -> Result<(), Memory>
     requires operand { of < length words.old }
     requires words { All (AreBits builder.old 32) words.old }
-    requires room { builder.old.variables + node_variables (nodes.Unary op kind of) < 2147483648 }
+    requires room { builder.old.variables + node_variables (nodes.Unary op kind of) < variable_bound }
     ensures adds { OnOk result (Adds builder.old builder.new words.old words.new (nodes.Unary op kind of)) }
 {
     let bits = unary_bits(alloc, builder, op, kind, &words.items()[of as usize])?;
@@ -64,7 +65,7 @@ fn add_binary(
     requires left { left < length words.old }
     requires right { right < length words.old }
     requires words { All (AreBits builder.old 32) words.old }
-    requires room { builder.old.variables + node_variables (nodes.Binary op kind left right) < 2147483648 }
+    requires room { builder.old.variables + node_variables (nodes.Binary op kind left right) < variable_bound }
     ensures adds { OnOk result (Adds builder.old builder.new words.old words.new (nodes.Binary op kind left right)) }
 {
     let lists = words.items();
@@ -111,7 +112,7 @@ fn add_choice(
     requires yes { yes < length words.old }
     requires no { no < length words.old }
     requires words { All (AreBits builder.old 32) words.old }
-    requires room { builder.old.variables + node_variables (nodes.Choose test yes no) < 2147483648 }
+    requires room { builder.old.variables + node_variables (nodes.Choose test yes no) < variable_bound }
     ensures adds { OnOk result (Adds builder.old builder.new words.old words.new (nodes.Choose test yes no)) }
 {
     let lists = words.items();
@@ -137,7 +138,7 @@ pub(crate) fn add_node(
 ) -> Result<(), Memory>
     requires node { IsNodeOf (length inputs.old.items) (length words.old) node }
     requires words { All (AreBits builder.old 32) words.old }
-    requires room { builder.old.variables + node_variables node < 2147483648 }
+    requires room { builder.old.variables + node_variables node < variable_bound }
     ensures steps { OnOk result (Steps builder.old builder.new inputs.old.items inputs.new.items words.old words.new node) }
     ensures inputs { OnOk result (length inputs.new.items ≡ length inputs.old.items) }
 {

@@ -1,5 +1,6 @@
 //! The circuit of a request.
 ghost use Rattle.std.specs.Prelude.{◌≡◌, ◌+◌, ◌<◌, ◌≤◌, IfOk, OnOk};
+ghost use Rattle.lz_cnf.specs.Models.{variable_bound};
 ghost use Rattle.lz_gates.specs.Circuits.{IsLit};
 ghost use Rattle.lz_arith.specs.Bits.{AreBits};
 
@@ -37,7 +38,7 @@ pub fn circuit_of(alloc: Global, request: Request) -> Result<Circuit, Memory> {
 /// The literal of an operand at this place.
 fn operand_bit(builder: &mut Builder, operand: Operand, place: u32) -> Result<Lit, Memory>
     requires place { place < 32 }
-    requires room { builder.old.variables + 1 < 2147483648 }
+    requires room { builder.old.variables + 1 < variable_bound }
     ensures lit { IfOk result (IsLit builder.new) }
     ensures more { OnOk result (builder.old.variables ≤ builder.new.variables) }
     ensures most { OnOk result (builder.new.variables ≤ builder.old.variables + 1) }
@@ -58,7 +59,7 @@ fn operand_bit(builder: &mut Builder, operand: Operand, place: u32) -> Result<Li
 
 /// The literals of an operand.
 fn operand_bits(alloc: Global, builder: &mut Builder, operand: Operand) -> Result<Bits, Memory>
-    requires room { builder.old.variables + 32 < 2147483648 }
+    requires room { builder.old.variables + 32 < variable_bound }
     ensures bits { IfOk result (AreBits builder.new 32) }
     ensures more { OnOk result (builder.old.variables ≤ builder.new.variables) }
     ensures most { OnOk result (builder.new.variables ≤ builder.old.variables + 32) }

@@ -28,8 +28,8 @@ fn opposite_units_have_no_model(rt: HostRuntime) -> Result<(), Fail> {
     for value in [false, true] {
         let mut model = Assignment::new(rt.alloc());
         model.push(value).ok().ok_or("memory")?;
-        assert_eq!(rt; model.items().len(), 1);
-        assert!(rt; !formula.satisfied_by(&model));
+        assert_eq!(rt; model.items().len(), 1, "{value}");
+        assert!(rt; !formula.satisfied_by(&model), "{value}");
     }
     Ok(())
 }

@@ -1,6 +1,5 @@
 -- A gate: one new variable whose clauses hold exactly where it has the gate's value.
-use Rattle.std.proofs.Common.{◌≡◌, ℕ, ◌+◌, ◌-◌, ◌*◌, ◌/◌, ◌%◌, Bool, true, false, not, cond, eqb, List, ◌++◌, refl, sym, ◌∙◌, ap, arith}
-use Rattle.std.proofs.lemmas.Bool.{eqb-true, eqb-false}
+use Rattle.std.proofs.Common.{◌≡◌, ℕ, ◌+◌, ◌*◌, ◌/◌, ◌%◌, Bool, true, false, not, cond, eqb, List, ◌++◌, refl, sym, ◌∙◌, ap, arith}
 use Rattle.std.proofs.lemmas.Bool.Decides.{nat_tests}
 use Rattle.lz_cnf.specs.declared.clause.Lit.{Lit}
 use Rattle.lz_cnf.specs.Models.{variable_of, is_negated, negated}
@@ -41,20 +40,20 @@ value-positive a lit n e =
     ∙ ap a half
 
 -- the assignment with another value at n
-abbrev put : Assignment → ℕ → Bool → Assignment
+abbrev pub put : Assignment → ℕ → Bool → Assignment
 put a n v x = cond (eqb x n) v (a x)
 
 -- it has that value there
-put_same : (a : Assignment) (n : ℕ) (v : Bool) → put a n v n ≡ v
+pub put_same : (a : Assignment) (n : ℕ) (v : Bool) → put a n v n ≡ v
 put_same a n v = grind (arith, nat_tests)
 
 -- and agrees below
-put_below : (a : Assignment) (n : ℕ) (v : Bool) → Agree n a (put a n v)
+pub put_below : (a : Assignment) (n : ℕ) (v : Bool) → Agree n a (put a n v)
 unfolding Agree
 put_below a n v x lt = grind (arith, nat_tests)
 
 -- two that agree below n and at n agree below n + 1
-agree_one : (n m : ℕ) (a b : Assignment) → m ≡ n + 1 → Agree n a b → a n ≡ b n → Agree m a b
+pub agree_one : (n m : ℕ) (a b : Assignment) → m ≡ n + 1 → Agree n a b → a n ≡ b n → Agree m a b
 unfolding Agree
 agree_one n m a b e h here x lt = grind arith
 

@@ -5,7 +5,7 @@ use Rattle.lz_cnf.specs.Models.{negated}
 use Rattle.lz_gates.specs.Circuits.{Circuit, Assignment, value, IsCircuit, Satisfies, Makes, choice}
 use Rattle.lz_gates.proofs.Extending.{makes_so, still}
 use Rattle.lz_gates.proofs.Gate.{value-negated}
-use Rattle.lz_gates.proofs.Folds.{value-truth, value-falsity}
+use Rattle.lz_gates.proofs.FoldLemmas.{value-truth, value-falsity}
 
 -- with 0 on the other side
 and_choice : (t y : Bool) → (t && y) ≡ choice t y false

@@ -2,7 +2,7 @@
 //! it answers that from then on, at each call that can.
 ghost use Rattle.std.specs.Prelude.{◌⊎◌, ◌≡◌, ℕ, ◌+◌, ◌*◌, ◌<◌, ◌≤◌, ◌&&◌, true, false, List, [], ◌∷◌, ◌++◌, IfOk, OnOk, OnErr, IsErr, length};
 ghost use Rattle.std.specs.List.{All};
-ghost use Rattle.lz_cnf.specs.Models.{IsFormula};
+ghost use Rattle.lz_cnf.specs.Models.{IsFormula, variable_bound};
 ghost use Rattle.lz_gates.specs.Circuits.{Assignment, Satisfies, value, xor, choice, IsLit, AreLits, IsCircuit, Makes, IsOpen, IsOpenChoice, first_clauses};
 
 use crate::fold::{folded_and, folded_choice, folded_xor};
@@ -43,7 +43,7 @@ fn push_clause(clauses: &mut Clauses, alloc: Global, clause: &[Lit]) -> Result<(
 impl Builder {
     /// One more variable, in no clause.
     pub fn fresh(&mut self) -> Result<Lit, Memory>
-        requires room { self.old.variables + 1 < 2147483648 }
+        requires room { self.old.variables + 1 < variable_bound }
         ensures lit { IfOk result (λ lit. lit.0 ≡ 2 * self.old.variables) }
         ensures variables { OnOk result (self.new.variables ≡ self.old.variables + 1) }
         ensures clauses { OnOk result (self.new.clauses ≡ self.old.clauses) }
@@ -86,7 +86,7 @@ impl Builder {
     fn new_and(&mut self, left: Lit, right: Lit) -> Result<Lit, Memory>
         requires left { IsLit self.old left }
         requires right { IsLit self.old right }
-        requires room { self.old.variables + 1 < 2147483648 }
+        requires room { self.old.variables + 1 < variable_bound }
         ensures lit { IfOk result (IsLit self.new) }
         ensures more { OnOk result (self.old.variables ≤ self.new.variables) }
         ensures most { OnOk result (self.new.variables ≤ self.old.variables + 1) }
@@ -107,7 +107,7 @@ impl Builder {
     pub fn and_gate(&mut self, left: Lit, right: Lit) -> Result<Lit, Memory>
         requires left { IsLit self.old left }
         requires right { IsLit self.old right }
-        requires room { self.old.variables + 1 < 2147483648 }
+        requires room { self.old.variables + 1 < variable_bound }
         ensures lit { IfOk result (IsLit self.new) }
         ensures more { OnOk result (self.old.variables ≤ self.new.variables) }
         ensures most { OnOk result (self.new.variables ≤ self.old.variables + 1) }
@@ -131,7 +131,7 @@ impl Builder {
     fn new_xor(&mut self, left: Lit, right: Lit) -> Result<Lit, Memory>
         requires left { IsLit self.old left }
         requires right { IsLit self.old right }
-        requires room { self.old.variables + 1 < 2147483648 }
+        requires room { self.old.variables + 1 < variable_bound }
         ensures lit { IfOk result (IsLit self.new) }
         ensures more { OnOk result (self.old.variables ≤ self.new.variables) }
         ensures most { OnOk result (self.new.variables ≤ self.old.variables + 1) }
@@ -153,7 +153,7 @@ impl Builder {
     pub fn xor_gate(&mut self, left: Lit, right: Lit) -> Result<Lit, Memory>
         requires left { IsLit self.old left }
         requires right { IsLit self.old right }
-        requires room { self.old.variables + 1 < 2147483648 }
+        requires room { self.old.variables + 1 < variable_bound }
         ensures lit { IfOk result (IsLit self.new) }
         ensures more { OnOk result (self.old.variables ≤ self.new.variables) }
         ensures most { OnOk result (self.new.variables ≤ self.old.variables + 1) }
@@ -178,7 +178,7 @@ impl Builder {
         requires test { IsLit self.old test }
         requires yes { IsLit self.old yes }
         requires no { IsLit self.old no }
-        requires room { self.old.variables + 1 < 2147483648 }
+        requires room { self.old.variables + 1 < variable_bound }
         ensures lit { IfOk result (IsLit self.new) }
         ensures more { OnOk result (self.old.variables ≤ self.new.variables) }
         ensures most { OnOk result (self.new.variables ≤ self.old.variables + 1) }
@@ -204,7 +204,7 @@ impl Builder {
         requires test { IsLit self.old test }
         requires yes { IsLit self.old yes }
         requires no { IsLit self.old no }
-        requires room { self.old.variables + 1 < 2147483648 }
+        requires room { self.old.variables + 1 < variable_bound }
         ensures lit { IfOk result (IsLit self.new) }
         ensures more { OnOk result (self.old.variables ≤ self.new.variables) }
         ensures most { OnOk result (self.new.variables ≤ self.old.variables + 1) }
@@ -238,7 +238,7 @@ impl Builder {
         requires test { IsLit self.old test }
         requires yes { IsLit self.old yes }
         requires no { IsLit self.old no }
-        requires room { self.old.variables + 1 < 2147483648 }
+        requires room { self.old.variables + 1 < variable_bound }
         ensures lit { IfOk result (IsLit self.new) }
         ensures more { OnOk result (self.old.variables ≤ self.new.variables) }
         ensures most { OnOk result (self.new.variables ≤ self.old.variables + 1) }

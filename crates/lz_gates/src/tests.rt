@@ -36,8 +36,12 @@ fn gates_have_their_values(rt: HostRuntime) -> Result<(), Fail> {
                 for value in [true, x, y, x && !y, (x != y) == forced, x && !y] {
                     model.push(value).ok().ok_or("memory")?;
                 }
-                assert_eq!(rt; model.items().len(), 6);
-                assert_eq!(rt; formula.satisfied_by(&model), forced && (x || y));
+                assert_eq!(rt; model.items().len(), 6, "{x} {y} {forced}");
+                assert_eq!(rt;
+                    formula.satisfied_by(&model),
+                    forced && (x || y),
+                    "{x} {y} {forced}"
+                );
             }
         }
     }

@@ -1,4 +1,4 @@
-use Rattle.lz_arith.proofs.Adding.{sum_modulo}
+use Rattle.lz_arith.proofs.AddLemmas.{sum_modulo}
 use Rattle.lz_arith.proofs.add.add_words.Goals as goal
 
 pub returns-clause-made : goal.returns-clause-made

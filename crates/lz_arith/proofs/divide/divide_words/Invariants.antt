@@ -1,4 +1,4 @@
-use Rattle.lz_arith.proofs.Dividing.{Divides}
+use Rattle.lz_arith.proofs.DivideLemmas.{Divides}
 use Rattle.lz_arith.proofs.divide.divide_words.Given as goal
 
 abbrev pub invariant-loop-i : goal.invariant-loop-i

@@ -2,7 +2,7 @@ use Rattle.std.proofs.Common.{ap, ◌∙◌, sym, List, ◌++◌, ◌∷◌, [],
 use Rattle.std.proofs.lemmas.List.{take_more, take_all}
 use Rattle.lz_cnf.specs.declared.clause.Lit.{Lit}
 use Rattle.lz_arith.specs.Bits.{negations}
-use Rattle.lz_arith.proofs.Dividing.{negations_push}
+use Rattle.lz_arith.proofs.DivideLemmas.{negations_push}
 use Rattle.lz_arith.proofs.lists.inverted.Goals as goal
 
 pub loop-i-preserved : goal.loop-i-preserved

@@ -4,7 +4,7 @@ use Rattle.lz_cnf.specs.declared.clause.Lit.{Lit}
 use Rattle.lz_cnf.specs.Models.{variable_of}
 use Rattle.lz_gates.proofs.Gate.{variable_of-positive, still_working}
 use Rattle.lz_gates.proofs.Lists.{below_two, negated_below}
-use Rattle.lz_arith.proofs.Truth.{tests_none, tests_more, tests_all, long_clause}
+use Rattle.lz_arith.proofs.NonzeroLemmas.{tests_none, tests_more, tests_all, long_clause}
 use Rattle.lz_arith.proofs.nonzero.new_test.Goals as goal
 
 pub loop-i-init : goal.loop-i-init

@@ -4,7 +4,7 @@ use Rattle.lz_blast.specs.Steps.{Stands}
 use Rattle.lz_blast.proofs.StepsLemmas.{stands_none}
 use Rattle.lz_blast.proofs.WordsMade.{unread_at}
 use Rattle.lz_blast.proofs.TurnsLemmas.{length-unread, turn_node, turn_room, turn_more, turn_all, test_room}
-use Rattle.lz_blast.proofs.DecidesLemmas.{decides, counted, tested_of}
+use Rattle.lz_blast.proofs.FormulasLemmas.{decides, counted, tested_of}
 use Rattle.lz_blast.proofs.formula.blast.Goals as goal
 
 pub loop-i-init : goal.loop-i-init

@@ -1,4 +1,4 @@
-use Rattle.lz_blast.proofs.AddsLemmas.{adds_binary}
+use Rattle.lz_blast.proofs.NodeLemmas.{adds_binary}
 use Rattle.lz_blast.proofs.node.add_binary.Goals as goal
 
 pub returns : goal.returns

@@ -1,6 +1,6 @@
 use Rattle.std.proofs.Common.{refl}
 use Rattle.lz_arith.proofs.Shifting.{bits_of}
-use Rattle.lz_blast.proofs.AddsLemmas.{adds_choice, held_long}
+use Rattle.lz_blast.proofs.NodeLemmas.{adds_choice, held_long}
 use Rattle.lz_blast.proofs.node.add_choice.Goals as goal
 
 pub returns : goal.returns

@@ -1,4 +1,4 @@
-use Rattle.lz_blast.proofs.AddsLemmas.{adds_constant}
+use Rattle.lz_blast.proofs.NodeLemmas.{adds_constant}
 use Rattle.lz_blast.proofs.node.add_constant.Goals as goal
 
 pub returns : goal.returns

@@ -1,4 +1,4 @@
-use Rattle.lz_blast.proofs.AddsLemmas.{adds_convert}
+use Rattle.lz_blast.proofs.NodeLemmas.{adds_convert}
 use Rattle.lz_blast.proofs.node.add_convert.Goals as goal
 
 pub returns : goal.returns

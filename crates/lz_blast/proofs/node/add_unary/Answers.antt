@@ -1,4 +1,4 @@
-use Rattle.lz_blast.proofs.AddsLemmas.{adds_unary}
+use Rattle.lz_blast.proofs.NodeLemmas.{adds_unary}
 use Rattle.lz_blast.proofs.node.add_unary.Goals as goal
 
 pub returns : goal.returns

@@ -1,4 +1,4 @@
-use Rattle.lz_gates.proofs.Freeing.{free_start, free_gate, free_fresh, free_require}
+use Rattle.lz_gates.proofs.FreedomLemmas.{free_start, free_gate, free_fresh, free_require}
 use Rattle.lz_gates.proofs.laws.fresh_values_settle_gates.Goals as goal
 
 pub returns-clause-start : goal.returns-clause-start

@@ -1,4 +1,4 @@
-use Rattle.lz_gates.proofs.Bridge.{model_satisfies, satisfies_model}
+use Rattle.lz_gates.proofs.ValuesLemmas.{model_satisfies, satisfies_model}
 use Rattle.lz_gates.proofs.laws.models_are_assignments.Goals as goal
 
 pub returns-clause-satisfies : goal.returns-clause-satisfies

@@ -1,4 +1,4 @@
-use Rattle.lz_gates.proofs.Bridge.{below_formula, below_filled}
+use Rattle.lz_gates.proofs.ValuesLemmas.{below_formula, below_filled}
 use Rattle.lz_gates.proofs.builder.Builder.finish.Goals as goal
 
 pub returns-clause-formula : goal.returns-clause-formula

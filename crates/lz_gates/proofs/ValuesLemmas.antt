@@ -1,6 +1,7 @@
 -- Models as lists of values, and as assignments; what a circuit gives as a formula.
 use Rattle.std.proofs.Common.{◌≡◌, ℕ, zero, suc, ◌<◌, Bool, true, false, not, ◌||◌, cond, List, [], ◌∷◌, length, get_or, Some, slice_get, refl, sym, ◌∙◌, ap, subst, arith}
 use Rattle.std.specs.List.{All, Any}
+use Rattle.std.proofs.lemmas.Bool.{or_right}
 use Rattle.lz_cnf.specs.declared.clause.Lit.{Lit}
 use Rattle.lz_cnf.specs.declared.clause.Cnf.{Cnf}
 use Rattle.lz_cnf.specs.Models.{variable_of, is_negated, IsTrueLit, IsModel}
@@ -8,7 +9,7 @@ use Rattle.lz_gates.specs.Circuits.{Assignment, value, clause_value, Satisfies, 
 use Rattle.lz_gates.specs.Values.{assigned, listed}
 
 -- a value that is read is the one in the list
-read_value : (values : List Bool) (i : ℕ) (v : Bool) → slice_get values i ≡ Some v → get_or values i false ≡ v
+pub read_value : (values : List Bool) (i : ℕ) (v : Bool) → slice_get values i ≡ Some v → get_or values i false ≡ v
 read_value [] i v e = absurd cc
 read_value (x ∷ xs) zero v e = cc
 read_value (x ∷ xs) (suc i) v e = read_value xs i v e
@@ -23,11 +24,6 @@ lit_true : (values : List Bool) (lit : Lit) → IsTrueLit values lit → value (
 unfolding value
 lit_true values lit h =
     ap (λ (v : Bool). cond (is_negated lit) (not v) v) (read_value values (variable_of lit) (not (is_negated lit)) h) ∙ sign_true (is_negated lit)
-
--- one of two is true where the second is
-or_right : (x y : Bool) → y ≡ true → (x || y) ≡ true
-or_right true y e = refl
-or_right false y e = e
 
 -- a clause with a true literal is true by the assignment
 some_true : (values : List Bool) (clause : List Lit) (k : ℕ) (x : Lit) → k < length clause → get_or clause k x ≡ x → IsTrueLit values x → clause_value (assigned values) clause ≡ true

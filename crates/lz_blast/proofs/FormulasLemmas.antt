@@ -1,7 +1,8 @@
 -- The formula of all nodes.
-use Rattle.std.proofs.Common.{◌≡◌, ◌≢◌, ℕ, zero, suc, ◌+◌, ◌*◌, ◌<◌, ◌≤◌, Bool, true, false, not, ◌||◌, eqb, List, [], ◌∷◌, ◌++◌, length, get_or, slice_get, slice_index, Some, refl, sym, ◌∙◌, ap, subst, arith}
-use Rattle.std.proofs.lemmas.Bool.{eqb-true}
+use Rattle.std.proofs.Common.{◌≡◌, ◌≢◌, ℕ, ◌+◌, ◌*◌, ◌<◌, ◌≤◌, Bool, true, false, not, eqb, List, [], ◌∷◌, ◌++◌, length, get_or, slice_index, refl, sym, ◌∙◌, ap, subst, arith}
+use Rattle.std.proofs.lemmas.Bool.{eqb-true, or_left}
 use Rattle.std.proofs.lemmas.List.{length-append}
+use Rattle.std.proofs.Math.Bool.{or-false}
 use Rattle.lz_base.specs.Words.{value_bound, is_true}
 use Rattle.lz_cnf.specs.declared.clause.Lit.{Lit}
 use Rattle.lz_cnf.specs.declared.clause.Cnf.{Cnf}
@@ -9,9 +10,9 @@ use Rattle.lz_cnf.specs.Models.{IsModel}
 use Rattle.lz_gates.specs.Circuits.{Circuit, Assignment, value, clause_value, Satisfies, Agree, AreBelow, IsCircuit, Makes}
 use Rattle.lz_gates.specs.Values.{assigned, listed}
 use Rattle.lz_gates.proofs.Extending.{satisfies_front, satisfies_back, satisfies_append, still, each_model_once, makes_so}
-use Rattle.lz_gates.proofs.Bridge.{model_satisfies, satisfies_model, listed_at}
+use Rattle.lz_gates.proofs.ValuesLemmas.{model_satisfies, satisfies_model, listed_at, read_value}
 use Rattle.lz_arith.specs.Bits.{word}
-use Rattle.lz_arith.proofs.Adding.{are_lits_more}
+use Rattle.lz_arith.proofs.AddLemmas.{are_lits_more}
 use Rattle.lz_arith.proofs.SignsLemmas.{word_small}
 use Rattle.lz_ssa.specs.declared.node.Nodes.{Nodes}
 use Rattle.lz_ssa.specs.NodeValues.{values_of, FailsAt, AreWellFormed}
@@ -22,26 +23,10 @@ use Rattle.lz_blast.specs.Steps.{Stands}
 use Rattle.lz_blast.proofs.CountsLemmas.{all_weigh}
 use Rattle.lz_blast.proofs.EncodingLemmas.{word_agrees, words_at, reads_agree}
 
--- the value at a place of a list
-read_value : (values : List Bool) (i : ℕ) (v : Bool) → slice_get values i ≡ Some v → get_or values i false ≡ v
-read_value [] i v e = absurd cc
-read_value (x ∷ xs) zero v e = cc
-read_value (x ∷ xs) (suc i) v e = read_value xs i v e
-
 -- what a list of the first values of an assignment gives back
 listed_agrees : (n : ℕ) (a : Assignment) → Agree n a (assigned (listed n a))
 unfolding Agree
 listed_agrees n a x lt = sym (read_value (listed n a) x (a x) (listed_at n a x lt))
-
--- one of two is true where the second is false and some is true
-or_none : (x : Bool) → (x || false) ≡ true → x ≡ true
-or_none true h = refl
-or_none false h = h
-
--- one of two is true where the first is
-or_some : (x : Bool) → x ≡ true → (x || false) ≡ true
-or_some true h = refl
-or_some false h = h
 
 -- a true word is not 0
 not_zero : (n : ℕ) → is_true n ≡ true → n ≢ 0
@@ -98,13 +83,13 @@ parts : (a : Assignment) (formula : Cnf) (tested : Circuit) (test : Lit) → for
 unfolding Satisfies clause_value
 parts a formula tested test e s =
     let u = subst (λ (cs : List (List Lit)). Satisfies a cs) e s in
-    (satisfies_front a tested.clauses ((test ∷ []) ∷ []) u, or_none (value a test) (satisfies_back a tested.clauses ((test ∷ []) ∷ []) u).0)
+    (satisfies_front a tested.clauses ((test ∷ []) ∷ []) u, sym (or-false (value a test)) ∙ (satisfies_back a tested.clauses ((test ∷ []) ∷ []) u).0)
 
 -- who satisfies the circuit, with a true test, satisfies the formula
 whole : (a : Assignment) (formula : Cnf) (tested : Circuit) (test : Lit) → formula.clauses ≡ tested.clauses ++ (test ∷ []) ∷ [] → Satisfies a tested.clauses → value a test ≡ true → Satisfies a formula.clauses
 unfolding Satisfies clause_value
 whole a formula tested test e s t =
-    subst (λ (cs : List (List Lit)). Satisfies a cs) (sym e) (satisfies_append a tested.clauses ((test ∷ []) ∷ []) s (or_some (value a test) t, tt))
+    subst (λ (cs : List (List Lit)). Satisfies a cs) (sym e) (satisfies_append a tested.clauses ((test ∷ []) ∷ []) s (or_left (value a test) false t, tt))
 
 -- an input that is told is a word
 told_range : (before : Circuit) (inputs : List (List Lit)) (values : List Bool) (i : ℕ) → AreInputs before inputs → told_input values inputs i < value_bound

@@ -1,14 +1,15 @@
 -- How each call keeps the freedom of the fresh variables.
-use Rattle.std.proofs.Common.{◌≡◌, ℕ, zero, suc, ◌+◌, ◌<◌, ◌≤◌, Bool, true, false, ◌||◌, cond, eqb, get_or, List, [], ◌∷◌, ◌++◌, refl, sym, ◌∙◌, ap, subst, arith}
-use Rattle.std.proofs.lemmas.Bool.Decides.{nat_tests}
+use Rattle.std.proofs.Common.{◌≡◌, ℕ, zero, suc, ◌+◌, ◌<◌, ◌≤◌, true, false, ◌||◌, get_or, List, [], ◌∷◌, ◌++◌, refl, sym, ◌∙◌, ap, subst, arith}
 use Rattle.std.specs.List.{All, Contains}
 use Rattle.std.proofs.lemmas.List.{get_or_default}
 use Rattle.std.proofs.lemmas.List.Elements.{All-append, Contains-append_left, Contains-append_right}
+use Rattle.std.proofs.lemmas.Bool.{or_left}
+use Rattle.std.proofs.Math.Bool.{or-false}
 use Rattle.lz_cnf.specs.declared.clause.Lit.{Lit}
 use Rattle.lz_cnf.specs.Models.{variable_of}
 use Rattle.lz_gates.specs.Circuits.{Circuit, Assignment, Satisfies, Agree, AreBelow, Extends, first_clauses, value, clause_value}
 use Rattle.lz_gates.specs.Freedom.{AgreeOn, AreVariables, IsFree}
-use Rattle.lz_gates.proofs.Gate.{value-positive}
+use Rattle.lz_gates.proofs.Gate.{value-positive, put, put_same, put_below, agree_one}
 use Rattle.lz_gates.proofs.Extending.{satisfies_agrees, satisfies_front, satisfies_back, satisfies_append, below_append, below_more}
 
 -- variables of a circuit are variables of a larger one
@@ -22,24 +23,6 @@ on_agrees : (circuit : Circuit) (xs : List ℕ) (v a b : Assignment) → AreVari
 unfolding AreVariables AgreeOn Agree
 on_agrees circuit [] v a b h same on = tt
 on_agrees circuit (x ∷ xs) v a b h same on = (on.0 ∙ same x h.0, on_agrees circuit xs v a b h.1 same on.1)
-
--- the assignment with another value at n
-abbrev put : Assignment → ℕ → Bool → Assignment
-put a n v x = cond (eqb x n) v (a x)
-
--- it has that value there
-put_same : (a : Assignment) (n : ℕ) (v : Bool) → put a n v n ≡ v
-put_same a n v = grind (arith, nat_tests)
-
--- and agrees below
-put_below : (a : Assignment) (n : ℕ) (v : Bool) → Agree n a (put a n v)
-unfolding Agree
-put_below a n v x lt = grind (arith, nat_tests)
-
--- two that agree below n and at n agree below n + 1
-agree_one : (n m : ℕ) (a b : Assignment) → m ≡ n + 1 → Agree n a b → a n ≡ b n → Agree m a b
-unfolding Agree
-agree_one n m a b e h here x lt = grind arith
 
 -- a fresh variable may have any value beside the others
 pub free_fresh : (old new : Circuit) (fresh : List ℕ) (gates : List (List Lit)) → IsFree old fresh gates → new.variables ≡ old.variables + 1 → new.clauses ≡ old.clauses → IsFree new (old.variables ∷ fresh) gates
@@ -87,16 +70,6 @@ free_require old new fresh gates clause h same more = record {
   once = λ a b on s t. subst (λ (n : ℕ). Agree n a b) (sym same) (h.once a b on s t);
 }
 
--- one of two is true where the second is false and some is true
-or_false : (x : Bool) → (x || false) ≡ true → x ≡ true
-or_false true h = refl
-or_false false h = h
-
--- one of two is true where the first is
-true_or : (x : Bool) → x ≡ true → (x || false) ≡ true
-true_or true h = refl
-true_or false h = h
-
 -- a new builder has no fresh variable, and its clause settles variable 0
 pub free_start : (start : Circuit) → start.variables ≡ 1 → start.clauses ≡ first_clauses → IsFree start [] first_clauses
 unfolding AreVariables AgreeOn AreBelow Satisfies clause_value Agree
@@ -104,11 +77,11 @@ free_start start one first = record {
   kept = subst (λ (cs : List (List Lit)). All (Contains cs) first_clauses) (sym first) (λ k d lt. (k, lt, get_or_default first_clauses k (get_or first_clauses k d) d lt));
   fresh_in = tt;
   below = (record { some = omega arith; lits = first_below }, tt);
-  some = λ v. ((λ x. true), (true_or _ (value-positive (λ x. true) (record { 0 = 0 }) 0 refl), tt), tt);
+  some = λ v. ((λ x. true), (or_left _ false (value-positive (λ x. true) (record { 0 = 0 }) 0 refl), tt), tt);
   once = λ a b on s t x lt.
       let at : x ≡ 0 = omega arith in
       let here : (c : Assignment) → (value c (record { 0 = 0 }) || false) ≡ true → c 0 ≡ true =
-      λ c e. sym (value-positive c (record { 0 = 0 }) 0 refl) ∙ or_false _ e in
+      λ c e. sym (value-positive c (record { 0 = 0 }) 0 refl) ∙ sym (or-false _) ∙ e in
       ap a at ∙ here a s.0 ∙ sym (here b t.0) ∙ ap b (sym at);
 }
   where
