@@ -1,24 +1,9 @@
 -- Guesses: two guesses lead to the same steps where they are above the same instructions.
 use Rattle.std.proofs.Common.{◌≡◌, ℕ, zero, suc, ◌≤◌, ◌<◌, Bool, true, false, cond, List, length, nat_lt, nat_le, refl, sym, ◌∙◌, ap, arith}
 use Rattle.std.proofs.lemmas.List.{drop_all}
+use Rattle.std.proofs.lemmas.Bool.{lt-ltb}
 use Rattle.lz_flat.specs.FlatRuns.{Ran, went, held, breaks, ended, step_from, step, steps_on, below}
 use Rattle.lz_flat.specs.Programs.{MarkedInstruction}
-
--- the test whether a number is below another, where it is
-pub lt_true : (a b : ℕ) → a < b → nat_lt a b ≡ true
-lt_true a b h = decide (nat_lt a b) refl
-  where
-    decide : (r : Bool) → nat_lt a b ≡ r → nat_lt a b ≡ true
-    decide true e = e
-    decide false e = absurd (let n : a < b → ⊥ = grind arith in n h)
-
--- and where it is not
-pub lt_false : (a b : ℕ) → b ≤ a → nat_lt a b ≡ false
-lt_false a b h = decide (nat_lt a b) refl
-  where
-    decide : (r : Bool) → nat_lt a b ≡ r → nat_lt a b ≡ false
-    decide true e = absurd (let n : a < b = grind arith in let z : ⊥ = omega arith in z)
-    decide false e = e
 
 -- behind a step come the same steps where each way on has the same
 pub steps_same : (place : ℕ) (memory : List ℕ) (r : Ran) (f g : ℕ → List ℕ → Ran) → ((p : ℕ) (m : List ℕ) → f p m ≡ g p m) → steps_on place memory r f ≡ steps_on place memory r g
@@ -69,7 +54,7 @@ clamped_lt place guess bound h = decide (nat_le guess bound) refl
   where
     decide : (b : Bool) → nat_le guess bound ≡ b → nat_lt place (cond b guess bound) ≡ nat_lt place guess
     decide true e = refl
-    decide false e = lt_true place bound h ∙ sym (lt_true place guess (let g : bound < guess = grind arith in omega arith))
+    decide false e = lt-ltb place bound h ∙ sym (lt-ltb place guess (let g : bound < guess = grind arith in omega arith))
 
 -- so a clamped guess leads to the same steps, where the bound is no less than the size of the code
 pub clamped_below : (most guess bound : ℕ) (input : ℕ → ℕ) (code : List MarkedInstruction) (place : ℕ) (memory : List ℕ) → length code ≤ bound

@@ -2,17 +2,17 @@
 use Rattle.std.proofs.Common.{◌≡◌, ℕ, zero, suc, ◌+◌, ◌≤◌, ◌<◌, Bool, true, false, cond, List, [], ◌∷◌, length, drop, nat_lt, refl, sym, ◌∙◌, ap, subst, arith}
 use Rattle.std.specs.Prelude.{slice_index, slice_set}
 use Rattle.std.proofs.lemmas.List.{length-set, get_or-set_same, set-get_or}
+use Rattle.std.proofs.lemmas.Bool.{lt-ltb, le-ltb}
 use Rattle.lz_base.specs.declared.word.BreakKind.{BreakKind}
+use Rattle.lz_base.proofs.DescentsLemmas.{Fits, nothing, stay, next}
 use Rattle.lz_flat.specs.FlatRuns.{Ran, went, held, breaks, ended, onward, step_from, step, below, Course, going, broken, course, course_behind, block_behind}
 use Rattle.lz_flat.specs.Instructions.{did}
 use Rattle.lz_flat.specs.Programs.{MarkedInstruction, FlatProgram, code_of}
 use Rattle.lz_flat.specs.WellFormed.{BeginsVisible}
 use Rattle.lz_flat.proofs.LandingLemmas.{drop-next, Lands, step_lands}
 use Rattle.lz_lazy.proofs.OnePass.{pass, carried, through, behind_carried, below_is_pass}
-use Rattle.lz_lazy.proofs.Guesses.{lt_true, lt_false}
 use Rattle.lz_lazy.proofs.Simulation.{set_twice}
 use Rattle.lz_lazy.proofs.Driving.{AllStand, AreThreads, stand_after}
-use Rattle.lz_flat.proofs.RoundsLemmas.{Fits, nothing, stay, next}
 
 -- ---- the first step of a pass
 
@@ -65,9 +65,9 @@ one_step_more input code place memory next_place next_memory guess begin e =
     decide : (b : Bool) → nat_lt place guess ≡ b → pass (cond b guess next_place) input place (drop place code) 0 memory ≡ pass guess input next_place (drop next_place code) 0 next_memory
     decide true lt = stepped_pass guess input code place memory (went next_place next_memory) begin lt e real
     decide false lt =
-        stepped_pass next_place input code place memory (went next_place next_memory) begin (lt_true place next_place (lands.forward)) e real
-        ∙ pass_stops next_place input (drop next_place code) next_place next_memory lands.stands (lt_false next_place next_place (omega arith))
-        ∙ sym (pass_stops guess input (drop next_place code) next_place next_memory lands.stands (lt_false next_place guess (high lt)))
+        stepped_pass next_place input code place memory (went next_place next_memory) begin (lt-ltb place next_place (lands.forward)) e real
+        ∙ pass_stops next_place input (drop next_place code) next_place next_memory lands.stands (le-ltb next_place next_place (omega arith))
+        ∙ sym (pass_stops guess input (drop next_place code) next_place next_memory lands.stands (le-ltb next_place guess (high lt)))
       where
         high : nat_lt place guess ≡ false → guess ≤ next_place
         high lt = let f = lands.forward in let g : guess ≤ place = grind arith in omega arith
@@ -76,13 +76,13 @@ one_step_more input code place memory next_place next_memory guess begin e =
 pub last_step : (input : ℕ → ℕ) (code : List MarkedInstruction) (place : ℕ) (memory : List ℕ) (kind : BreakKind) (line : ℕ) → BeginsVisible (drop place code) → step input code place memory ≡ breaks kind line
     → below (length code) (suc place) input code place memory ≡ breaks kind line
 last_step input code place memory kind line begin e =
-    at_once (suc place) input code place memory begin ∙ stepped_pass (suc place) input code place memory (breaks kind line) begin (lt_true place (suc place) (omega arith)) e (λ h. cc)
+    at_once (suc place) input code place memory begin ∙ stepped_pass (suc place) input code place memory (breaks kind line) begin (lt-ltb place (suc place) (omega arith)) e (λ h. cc)
 
 -- below the guess 0 there are no steps
 no_steps : (most : ℕ) (input : ℕ → ℕ) (code : List MarkedInstruction) (place : ℕ) (memory : List ℕ) → below most 0 input code place memory ≡ went place memory
 unfolding below
 no_steps zero input code place memory = refl
-no_steps (suc most) input code place memory = rw (lt_false place 0 (omega arith)) refl
+no_steps (suc most) input code place memory = rw (le-ltb place 0 (omega arith)) refl
 
 -- ---- blocks with guesses, each thread with its own inputs
 

@@ -2,12 +2,12 @@
 use Rattle.std.proofs.Common.{◌≡◌, ℕ, zero, suc, ◌+◌, ◌-◌, ◌*◌, ◌/◌, ◌≤◌, ◌<◌, Bool, true, false, cond, List, [], ◌∷◌, length, drop, nat_lt, nat_le, refl, ◌∙◌, ap, arith}
 use Rattle.std.specs.Prelude.{slice_index, slice_set, ◌==◌, if◌then◌else◌}
 use Rattle.std.proofs.lemmas.List.{length-drop}
-use Rattle.std.proofs.lemmas.Bool.{eqb-true, eqb-false}
+use Rattle.std.proofs.lemmas.Bool.{lt-ltb, le-ltb, ne_eqb, eq-eqb}
 use Rattle.lz_base.specs.Words.{value_bound}
 use Rattle.lz_flat.specs.FlatRuns.{Ran, went, behind, onward, step_from, step, below, source, block_length, driven}
 use Rattle.lz_flat.specs.Instructions.{Did, moved, blocked, broke, did}
 use Rattle.lz_flat.specs.Programs.{MarkedInstruction, FlatProgram, code_of}
-use Rattle.lz_lazy.proofs.Guesses.{lt_true, lt_false, steps_same, clamped, clamped_below}
+use Rattle.lz_lazy.proofs.Guesses.{steps_same, clamped, clamped_below}
 use Rattle.lz_lazy.proofs.Guessing.{guided, block_same}
 
 -- ---- the same inputs where instructions stand
@@ -63,39 +63,23 @@ inputs_of flat inputs guesses (thread ∷ rest) o i =
     if nat_lt i (o + block_length (code_of flat thread)) then block_input (inputs thread) (clamped (slice_index guesses 0) (length (code_of flat thread))) o i
     else inputs_of flat inputs (drop 1 guesses) rest (o + block_length (code_of flat thread)) i
 
--- a number equals itself
-eq_self : (a : ℕ) → (a == a) ≡ true
-eq_self a = decide (a == a) refl
-  where
-    decide : (b : Bool) → (a == a) ≡ b → (a == a) ≡ true
-    decide true e = e
-    decide false e = absurd (eqb-false a a e refl)
-
--- two numbers that differ are not equal
-eq_other : (a b : ℕ) → (a ≡ b → ⊥) → (a == b) ≡ false
-eq_other a b h = decide (a == b) refl
-  where
-    decide : (r : Bool) → (a == b) ≡ r → (a == b) ≡ false
-    decide true e = absurd (h (eqb-true a b e))
-    decide false e = e
-
 -- the first input of a block is its guess, clamped
 guess_in : (flat : FlatProgram) (inputs : ℕ → ℕ → ℕ) (guesses : List ℕ) (thread : ℕ) (rest : List ℕ) (o : ℕ) → inputs_of flat inputs guesses (thread ∷ rest) o o ≡ clamped (slice_index guesses 0) (length (code_of flat thread))
 unfolding inputs_of
-guess_in flat inputs guesses thread rest o = rw (lt_true o (o + block_length (code_of flat thread)) (omega arith), eq_self o) refl
+guess_in flat inputs guesses thread rest o = rw (lt-ltb o (o + block_length (code_of flat thread)) (omega arith), eq-eqb o o refl) refl
 
 -- the input of an instruction is that of its thread
 source_in : (flat : FlatProgram) (inputs : ℕ → ℕ → ℕ) (guesses : List ℕ) (thread : ℕ) (rest : List ℕ) (o l : ℕ) → l < length (code_of flat thread) → source (inputs_of flat inputs guesses (thread ∷ rest) o) o l ≡ inputs thread l
 unfolding inputs_of
 source_in flat inputs guesses thread rest o l h =
     let at : (o + (12 + 3 * l) - (o + 12)) / 3 ≡ l = omega arith in
-    rw (lt_true (o + (12 + 3 * l)) (o + block_length (code_of flat thread)) (omega arith), eq_other (o + (12 + 3 * l)) o (λ e. omega arith), at) refl
+    rw (lt-ltb (o + (12 + 3 * l)) (o + block_length (code_of flat thread)) (omega arith), ne_eqb (o + (12 + 3 * l)) o (λ e. omega arith), at) refl
 
 -- behind a block come the inputs of the others
 behind_in : (flat : FlatProgram) (inputs : ℕ → ℕ → ℕ) (guesses : List ℕ) (thread : ℕ) (rest : List ℕ) (o i : ℕ) → o + block_length (code_of flat thread) ≤ i
     → inputs_of flat inputs guesses (thread ∷ rest) o i ≡ inputs_of flat inputs (drop 1 guesses) rest (o + block_length (code_of flat thread)) i
 unfolding inputs_of
-behind_in flat inputs guesses thread rest o i h = rw (lt_false i (o + block_length (code_of flat thread)) h) refl
+behind_in flat inputs guesses thread rest o i h = rw (le-ltb i (o + block_length (code_of flat thread)) h) refl
 
 -- the drive reads the inputs from its offset on alone
 pub driven_agrees : (flat : FlatProgram) (a b : ℕ → ℕ) (bs : List ℕ) (o : ℕ) (places memory : List ℕ) → ((i : ℕ) → o ≤ i → a i ≡ b i) → driven flat a o bs places memory ≡ driven flat b o bs places memory

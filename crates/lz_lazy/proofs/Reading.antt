@@ -2,17 +2,17 @@
 use Rattle.std.proofs.Common.{◌≡◌, ℕ, zero, suc, ◌+◌, ◌*◌, ◌≤◌, ◌<◌, Bool, true, false, cond, List, [], ◌∷◌, length, drop, nat_lt, eqb, refl, sym, ◌∙◌, ap, subst, arith}
 use Rattle.std.specs.Prelude.{slice_index, slice_set, slice_index_or, ◌↔◌, if◌then◌else◌, ⊤}
 use Rattle.std.proofs.lemmas.List.{length-set, drop_all, get_or-set_same, get_or-set_other, set-get_or}
-use Rattle.std.proofs.lemmas.Bool.{eqb-true, eqb-false}
+use Rattle.std.proofs.lemmas.Bool.{eqb-true, eqb-false, lt-ltb, le-ltb}
 use Rattle.lz_base.specs.Words.{value_bound}
 use Rattle.lz_base.specs.declared.word.BreakKind.{BreakKind}
+use Rattle.lz_base.proofs.DescentsLemmas.{Fits, nothing, stay, next}
 use Rattle.lz_flat.specs.FlatRuns.{Ran, went, held, breaks, ended, behind, onward, step_from, step, steps_on, below, Course, broken, course, course_behind, block_behind, source, block_length, driven, blocks, opening, FlatBroken, DrivesBreak}
 use Rattle.lz_flat.specs.Instructions.{Did, moved, blocked, broke, did}
 use Rattle.lz_flat.specs.Programs.{MarkedInstruction, FlatProgram, code_of}
 use Rattle.lz_flat.specs.WellFormed.{IsWellMarked}
 use Rattle.lz_lazy.proofs.Simulation.{set_twice}
 use Rattle.lz_lazy.proofs.Driving.{AreThreads, opening_stands, blocks_small, length_zeros}
-use Rattle.lz_flat.proofs.RoundsLemmas.{Fits, nothing, stay, next, fits_rounds, few_rounds}
-use Rattle.lz_lazy.proofs.Guesses.{lt_true, lt_false}
+use Rattle.lz_flat.proofs.RoundsLemmas.{fits_rounds, few_rounds}
 use Rattle.lz_lazy.proofs.Guessing.{guesses_of}
 use Rattle.lz_lazy.proofs.Inputs.{step_agrees, inputs_of, driven_guided, inputs_small}
 
@@ -298,7 +298,7 @@ eqb_self a = decide (eqb a a) refl
 
 -- up to the end of the block the thread has the inputs of the block
 spliced_now : (thread end : ℕ) (now : ℕ → ℕ) (later : ℕ → ℕ → ℕ) (k : ℕ) → k < end → now k ≡ spliced thread end now later thread k
-spliced_now thread end now later k h = rw (eqb_self thread, lt_true k end h) refl
+spliced_now thread end now later k h = rw (eqb_self thread, lt-ltb k end h) refl
 
 -- from there on each thread has the later ones
 spliced_later : (thread end : ℕ) (now : ℕ → ℕ) (later : ℕ → ℕ → ℕ) (places : List ℕ) → thread < length places → (u k : ℕ) → slice_index (slice_set places thread end) u ≤ k → later u k ≡ spliced thread end now later u k
@@ -307,7 +307,7 @@ spliced_later thread end now later places lt u k h = decide (eqb u thread) refl
     decide : (r : Bool) → eqb u thread ≡ r → later u k ≡ (if r then (if nat_lt k end then now k else later u k) else later u k)
     decide true e =
         let at : slice_index (slice_set places thread end) u ≡ end = subst (λ (v : ℕ). slice_index (slice_set places thread end) v ≡ end) (sym (eqb-true u thread e)) (get_or-set_same places thread end 0 lt) in
-        rw (lt_false k end (omega arith)) refl
+        rw (le-ltb k end (omega arith)) refl
     decide false e = refl
 
 -- what a block leads to, by where its steps end

@@ -2,7 +2,7 @@
 use Rattle.std.proofs.Common.{◌≡◌, ℕ, zero, suc, ◌+◌, ◌-◌, ◌*◌, ◌≤◌, ◌<◌, Bool, true, false, not, ◌&&◌, cond, List, [], ◌∷◌, ◌++◌, length, nat_lt, refl, ◌∙◌, ap, arith}
 use Rattle.std.specs.Prelude.{slice_index, slice_set, ◌==◌, if◌then◌else◌, ⊤}
 use Rattle.std.proofs.lemmas.List.{length-set, get_or-set_same}
-use Rattle.std.proofs.lemmas.Bool.{eqb-true, eqb-false}
+use Rattle.std.proofs.lemmas.Bool.{ne_eqb, eq-eqb}
 use Rattle.lz_flat.specs.FlatRuns.{Ran, went, held, breaks, ended, behind, source}
 use Rattle.lz_flat.specs.Instructions.{value, put, Did, moved, blocked, broke, did}
 use Rattle.lz_flat.specs.Programs.{Expression, constant, word, choose, Location, Instruction, sets, takes, assumes, checks, skips, MarkedInstruction, Statement}
@@ -11,15 +11,10 @@ use Rattle.lz_flat.specs.WellFormed.{IsInstructionOf, IsForward, IsCodeOf}
 use Rattle.lz_lazy.specs.Encoding.{whole, flag_place, saved_place, runs_next, idle, always, flagged, body, following, encoded}
 use Rattle.lz_lazy.proofs.OnePass.{pass}
 use Rattle.lz_flat.proofs.WordsLemmas.{value_laid, extended, did_laid, Keeps, did_keeps}
+use Rattle.lz_flat.proofs.StraightRunLemmas.{straight_passed}
 use Rattle.lz_lazy.proofs.LaidOut.{laid, at_flag, set_flag, set_saved, ready, ready_next, value_next}
 
 -- ---- one statement
-
--- a statement whose guard is 0 is passed over
-pub passed : (input : ℕ → ℕ) (i : ℕ) (first : Statement) (rest : List Statement) (memory : List ℕ) → value first.guard memory ≡ 0
-    → straight input i (first ∷ rest) memory ≡ straight input (suc i) rest memory
-unfolding straight
-passed input i first rest memory e = rw e refl
 
 -- a statement whose guard is 1 does what its instruction does
 pub taken : (input : ℕ → ℕ) (i : ℕ) (first : Statement) (rest : List Statement) (memory : List ℕ) → value first.guard memory ≡ 1
@@ -61,7 +56,7 @@ pub tail_off : (input : ℕ → ℕ) (o n thread l : ℕ) (of : Expression) (par
     → straight input o (flagged n (sets (whole (saved_place n thread)) of) ∷ always (sets (whole (flag_place n)) (runs_next n thread l part)) ∷ rest) (laid words guess 0 places)
     ≡ straight input (suc (suc o)) rest (laid words guess (ready_next guess (slice_index places thread) l part) places)
 tail_off input o n thread l of part rest words guess places long =
-    passed input o (flagged n (sets (whole (saved_place n thread)) of)) (always (sets (whole (flag_place n)) (runs_next n thread l part)) ∷ rest) (laid words guess 0 places) (flag_is n words guess 0 places long)
+    straight_passed input o (flagged n (sets (whole (saved_place n thread)) of)) (always (sets (whole (flag_place n)) (runs_next n thread l part)) ∷ rest) (laid words guess 0 places) (flag_is n words guess 0 places long)
     ∙ third input (suc o) n thread l part rest words guess 0 places long
 
 -- behind one that ran they set the saved place and the flag
@@ -144,18 +139,18 @@ three_on input o n thread l left (assumes test) part rest words guess places lon
 three_on input o n thread l left (checks test kind line) part rest words guess places long lt is go =
     flagged_on input o n thread (suc l) (checks test kind line) part rest words guess places long lt is (plain_cond (value test words == 0) (broke kind line) (moved 0 words) tt refl)
 three_on input o n thread l left (skips test by) part rest words guess places long lt is go =
-    passed input o idle (flagged n (sets (whole (saved_place n thread)) (following l (skips test by))) ∷ always (sets (whole (flag_place n)) (runs_next n thread (suc l) part)) ∷ rest) (laid words guess 1 places) (constant_is 0 (laid words guess 1 places))
+    straight_passed input o idle (flagged n (sets (whole (saved_place n thread)) (following l (skips test by))) ∷ always (sets (whole (flag_place n)) (runs_next n thread (suc l) part)) ∷ rest) (laid words guess 1 places) (constant_is 0 (laid words guess 1 places))
     ∙ tail_on input (suc o) n thread (suc l) (following l (skips test by)) part rest words guess (suc l + (if value test words == 0 then 0 else by - 1)) places long lt
     (skip_value n l by test words (guess ∷ 1 ∷ places) long is go.0)
 
 -- under a flag of 0 the instruction does nothing
 body_off : (input : ℕ → ℕ) (o n : ℕ) (i : Instruction) (rest : List Statement) (words : List ℕ) (guess : ℕ) (places : List ℕ) → length words ≡ n
     → straight input o (body n i ∷ rest) (laid words guess 0 places) ≡ straight input (suc o) rest (laid words guess 0 places)
-body_off input o n (sets to of) rest words guess places long = passed input o (flagged n (sets to of)) rest (laid words guess 0 places) (flag_is n words guess 0 places long)
-body_off input o n (takes to) rest words guess places long = passed input o (flagged n (takes to)) rest (laid words guess 0 places) (flag_is n words guess 0 places long)
-body_off input o n (assumes test) rest words guess places long = passed input o (flagged n (assumes test)) rest (laid words guess 0 places) (flag_is n words guess 0 places long)
-body_off input o n (checks test kind line) rest words guess places long = passed input o (flagged n (checks test kind line)) rest (laid words guess 0 places) (flag_is n words guess 0 places long)
-body_off input o n (skips test by) rest words guess places long = passed input o idle rest (laid words guess 0 places) (constant_is 0 (laid words guess 0 places))
+body_off input o n (sets to of) rest words guess places long = straight_passed input o (flagged n (sets to of)) rest (laid words guess 0 places) (flag_is n words guess 0 places long)
+body_off input o n (takes to) rest words guess places long = straight_passed input o (flagged n (takes to)) rest (laid words guess 0 places) (flag_is n words guess 0 places long)
+body_off input o n (assumes test) rest words guess places long = straight_passed input o (flagged n (assumes test)) rest (laid words guess 0 places) (flag_is n words guess 0 places long)
+body_off input o n (checks test kind line) rest words guess places long = straight_passed input o (flagged n (checks test kind line)) rest (laid words guess 0 places) (flag_is n words guess 0 places long)
+body_off input o n (skips test by) rest words guess places long = straight_passed input o idle rest (laid words guess 0 places) (constant_is 0 (laid words guess 0 places))
 
 -- and of one whose flag is not set
 pub three_off : (input : ℕ → ℕ) (o n thread l : ℕ) (i : Instruction) (part : List MarkedInstruction) (rest : List Statement) (words : List ℕ) (guess : ℕ) (places : List ℕ) → length words ≡ n
@@ -167,35 +162,19 @@ three_off input o n thread l i part rest words guess places long =
 
 -- ---- the flag's value
 
--- two numbers that differ are not equal
-nat_differ : (a b : ℕ) → (a ≡ b → ⊥) → (a == b) ≡ false
-nat_differ a b h = decide (a == b) refl
-  where
-    decide : (r : Bool) → (a == b) ≡ r → (a == b) ≡ false
-    decide true e = absurd (h (eqb-true a b e))
-    decide false e = e
-
--- a number equals itself
-nat_same : (a : ℕ) → (a == a) ≡ true
-nat_same a = decide (a == a) refl
-  where
-    decide : (r : Bool) → (a == a) ≡ r → (a == a) ≡ true
-    decide true e = e
-    decide false e = absurd (eqb-false a a e refl)
-
 -- no instruction runs but the one at the saved place
 pub ready_off : (guess place l : ℕ) (visible : Bool) → (place ≡ l → ⊥) → ready guess place l visible ≡ 0
-ready_off guess place l true h = rw (nat_differ place l h) refl
-ready_off guess place l false h = rw (nat_differ place l h) refl
+ready_off guess place l true h = rw (ne_eqb place l h) refl
+ready_off guess place l false h = rw (ne_eqb place l h) refl
 
 -- at its own place the flag is set but where the pass stops
 pub ready_on : (guess place l : ℕ) (visible : Bool) → place ≡ l → ready guess place l visible ≡ cond (visible && not (nat_lt l guess)) 0 1
-ready_on guess place l true e = rw (e, nat_same l) (turned (nat_lt l guess))
+ready_on guess place l true e = rw (e, eq-eqb l l refl) (turned (nat_lt l guess))
   where
     turned : (b : Bool) → ◌≡◌ {A = ℕ} (cond b 1 0) (cond (not b) 0 1)
     turned true = refl
     turned false = refl
-ready_on guess place l false e = rw (e, nat_same l) refl
+ready_on guess place l false e = rw (e, eq-eqb l l refl) refl
 
 -- so the next one where the thread stands elsewhere
 pub next_off : (guess place l : ℕ) (part : List MarkedInstruction) → (place ≡ l → ⊥) → ready_next guess place l part ≡ 0
