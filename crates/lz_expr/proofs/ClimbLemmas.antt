@@ -1,36 +1,12 @@
 -- Operators that group to the left, under a limit on the height.
 use Rattle.std.proofs.Common.{◌≡◌, ℕ, zero, suc, ◌+◌, ◌<◌, ◌≤◌, Bool, true, false, List, [], ◌∷◌, ◌++◌, length, Option, Some, None, refl, sym, ap, subst, ◌∙◌, inl, inr, append_assoc, arith, nat_lt}
 use Rattle.std.specs.Prelude.{if◌then◌else◌, ◌⊎◌, ◌||◌, ◌&&◌}
+use Rattle.std.proofs.lemmas.Bool.{or_parts, and_parts, or_from, lt-ltb, ltb-true}
+use Rattle.std.proofs.Math.Bool.{and-false}
 use Rattle.lz_expr.specs.Fronts.{Viable}
 use Rattle.lz_expr.specs.Reading.{Outcome, gives, refused, Reader, and_then, ◌>>=◌, shown, token, starts, Ends, shows, climb, row_of_operators}
 use Rattle.lz_expr.proofs.ExactLemmas.{Refused, Found, Exact}
 use Rattle.lz_expr.proofs.RowsLemmas.{Row}
-
-pub lt_true : (a b : ℕ) → a < b → nat_lt a b ≡ true
-lt_true a b h = grind arith
-
-or_false_left : (a b : Bool) → (a || b) ≡ false → a ≡ false
-or_false_left true b h = absurd cc
-or_false_left false b h = refl
-
-or_false_right : (a b : Bool) → (a || b) ≡ false → b ≡ false
-or_false_right true b h = absurd cc
-or_false_right false b h = h
-
-and_false : (a : Bool) → (a && false) ≡ false
-and_false true = refl
-and_false false = refl
-
-and_left : (a b : Bool) → (a && b) ≡ true → a ≡ true
-and_left true b h = refl
-and_left false b h = absurd cc
-
-and_right : (a b : Bool) → (a && b) ≡ true → b ≡ true
-and_right true b h = h
-and_right false b h = absurd cc
-
-or_both : (a b : Bool) → a ≡ false → b ≡ false → (a || b) ≡ false
-or_both a b h k = rw (h, k) refl
 
 -- One tree of the level is one of the tighter level, or an operator between one of this level and one below the limit.
 pub record Joined {K T O : Type 0} (height : T → ℕ) (show : K → Option O) (make : ℕ → O → T → T → T) (top : ℕ) (first : List K → ℕ)
@@ -91,7 +67,7 @@ module _ {K T O : Type 0} (height : T → ℕ) (show : K → Option O) (make : �
   step : (line n : ℕ) (t r : T) (c : K) (o : O) (v rest : List K) → height t < top → show c ≡ Some o → rr (v ++ rest) ≡ gives r rest
       → climbs line (suc n) t (c ∷ v ++ rest) ≡ climbs line n (make line o t r) rest
   unfolding climb token
-  step line n t r c o v rest h s e = rw (lt_true (height t) top h) (rw s (rw e refl))
+  step line n t r c o v rest h s e = rw (lt-ltb (height t) top h) (rw s (rw e refl))
 
   record Reached (t : T) (u rest : List K) : Type 0 where
     fuel : ℕ
@@ -140,12 +116,12 @@ module _ {K T O : Type 0} (height : T → ℕ) (show : K → Option O) (make : �
   stops : (line n : ℕ) (t : T) (rest : List K) → Ends (goes t) rest → top < n + height t → climbs line n t rest ≡ gives t rest
   unfolding climb
   stops line zero t rest e h = refl
-  stops line (suc n) t [] e h = rw (and_false (nat_lt (height t) top)) refl
-  stops line (suc n) t (c ∷ rest) e h = rw (or_false_right (hang t c) (nat_lt (height t) top && is_op c) e) refl
+  stops line (suc n) t [] e h = rw (and-false (nat_lt (height t) top)) refl
+  stops line (suc n) t (c ∷ rest) e h = rw (or_parts (hang t c) (nat_lt (height t) top && is_op c) e).1 refl
 
   ends_hang : (t : T) (rest : List K) → Ends (goes t) rest → Ends (hang t) rest
   ends_hang t [] e = tt
-  ends_hang t (c ∷ rest) e = or_false_left (hang t c) (nat_lt (height t) top && is_op c) e
+  ends_hang t (c ∷ rest) e = (or_parts (hang t c) (nat_lt (height t) top && is_op c) e).0
 
   level_complete : (t : T) (u rest : List K) → l t u → Ends (goes t) rest → level (u ++ rest) ≡ gives t rest
   level_complete t u rest m e =
@@ -162,10 +138,7 @@ module _ {K T O : Type 0} (height : T → ℕ) (show : K → Option O) (make : �
 
   ends_level : (t : T) (left : List K) → Ends (hang t) left → (nat_lt (height t) top && starts is_op left) ≡ false → Ends (goes t) left
   ends_level t [] e h = tt
-  ends_level t (c ∷ left) e h = or_both (hang t c) (nat_lt (height t) top && is_op c) e h
-
-  lt_from : (a b : ℕ) → nat_lt a b ≡ true → a < b
-  lt_from a b h = grind arith
+  ends_level t (c ∷ left) e h = or_from (hang t c) (nat_lt (height t) top && is_op c) e h
 
   found_at : (ts : List K) (t : T) (left : List K) (a : At ts t left) → (nat_lt (height t) top && starts is_op left) ≡ false → (x : T) (rest : List K) → gives t left ≡ gives x rest → Found l goes ts x rest
   found_at ts t left a h x rest e =
@@ -231,8 +204,8 @@ module _ {K T O : Type 0} (height : T → ℕ) (show : K → Option O) (make : �
       → (if q then (token show >>= (λ op. rr >>= (λ r. climbs line n (make line op t r)))) left else gives t left) ≡ gives x rest → Found l goes ts x rest
   sound_by n line ts again t left a is h x rest false s k = found_at ts t left a s x rest k
   sound_by n line ts again t left a is h x rest true s k =
-      let below : height t < top = lt_from (height t) top (and_left (nat_lt (height t) top) (starts is_op left) s) in
-      let m = next ts t left a line (and_right (nat_lt (height t) top) (starts is_op left) s) in
+      let below : height t < top = ltb-true (height t) top (and_parts (nat_lt (height t) top) (starts is_op left) s).0 in
+      let m = next ts t left a line (and_parts (nat_lt (height t) top) (starts is_op left) s).1 in
       climb_turn n line ts t left a is h below m
       (λ r mid b b_is y w k. again (make line m.op t r) mid b b_is (let more = higher line m.op t r in omega (arith, more)) y w k)
       (rr m.rest) refl x rest (sym (turn n line ts t left a m) ∙ k)
@@ -286,7 +259,7 @@ module _ {K T O : Type 0} (height : T → ℕ) (show : K → Option O) (make : �
           let e : Reached t a.read (m.c ∷ (f.read ++ c ∷ s)) = reach (height t) t a.read (m.c ∷ (f.read ++ c ∷ s)) (omega arith) a.of (apart t a.read m.c m.op a.of m.shown) in
           let turns : 0 < e.fuel = omega (arith, e.enough) in
           let k = some_fuel e.fuel turns in
-          rw append_assoc (e.run ∙ ap (λ (j : ℕ). climbs (first a.read) j t (m.c ∷ (f.read ++ c ∷ s))) k.1 ∙ rw (lt_true (height t) top below) (rw m.shown (rw (f.local c r s same) refl)))
+          rw append_assoc (e.run ∙ ap (λ (j : ℕ). climbs (first a.read) j t (m.c ∷ (f.read ++ c ∷ s))) k.1 ∙ rw (lt-ltb (height t) top below) (rw m.shown (rw (f.local c r s same) refl)))
 
   refuses_turn : (n line : ℕ) (ts : List K) → Refuses n line ts → (t : T) (left : List K) (a : At ts t left) → first a.read ≡ line → top < suc n + height t → height t < top → (m : Next ts t left a line)
       → (o : Outcome K T) → rr m.rest ≡ o → (i : ℕ) → and_then o (λ r. climbs line n (make line m.op t r)) ≡ refused i → Refused l level ts i
@@ -303,8 +276,8 @@ module _ {K T O : Type 0} (height : T → ℕ) (show : K → Option O) (make : �
       → (if q then (token show >>= (λ op. rr >>= (λ r. climbs line n (make line op t r)))) left else gives t left) ≡ refused i → Refused l level ts i
   refuses_by n line ts again t left a is h i false s k = absurd cc
   refuses_by n line ts again t left a is h i true s k =
-      let below : height t < top = lt_from (height t) top (and_left (nat_lt (height t) top) (starts is_op left) s) in
-      let m = next ts t left a line (and_right (nat_lt (height t) top) (starts is_op left) s) in
+      let below : height t < top = ltb-true (height t) top (and_parts (nat_lt (height t) top) (starts is_op left) s).0 in
+      let m = next ts t left a line (and_parts (nat_lt (height t) top) (starts is_op left) s).1 in
       refuses_turn n line ts again t left a is h below m (rr m.rest) refl i (sym (turn n line ts t left a m) ∙ k)
 
   climb_refuses : (n line : ℕ) (ts : List K) → Refuses n line ts
@@ -360,8 +333,8 @@ module _ {K T O : Type 0} (height : T → ℕ) (show : K → Option O) (make : �
   on_by : (t : T) (u : List K) (c : K) → l t u → (p q : Bool) → hang t c ≡ p → (nat_lt (height t) top && is_op c) ≡ q → goes t c ≡ true → Viable l (u ++ c ∷ [])
   on_by t u c m true q is is₂ e = on_hang t u c m (split t u m) is
   on_by t u c m false true is is₂ e =
-      on_op t u c m (lt_from (height t) top (and_left (nat_lt (height t) top) (is_op c) is₂)) (and_right (nat_lt (height t) top) (is_op c) is₂)
-  on_by t u c m false false is is₂ e = let ends : goes t c ≡ false = or_both (hang t c) (nat_lt (height t) top && is_op c) is is₂ in absurd cc
+      on_op t u c m (ltb-true (height t) top (and_parts (nat_lt (height t) top) (is_op c) is₂).0) (and_parts (nat_lt (height t) top) (is_op c) is₂).1
+  on_by t u c m false false is is₂ e = let ends : goes t c ≡ false = or_from (hang t c) (nat_lt (height t) top && is_op c) is is₂ in absurd cc
 
   pub exact_level : Exact l (row_of_operators height show make top first rt rr) (level_goes height show top hang)
   exact_level = record {

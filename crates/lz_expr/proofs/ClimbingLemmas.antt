@@ -1,19 +1,11 @@
 -- A loop over operators, beside the reader that recurs over them.
-use Rattle.std.proofs.Common.{◌≡◌, ℕ, zero, suc, ◌+◌, ◌<◌, ◌≤◌, Bool, true, false, List, [], ◌∷◌, Option, Some, None, refl, ap, ◌∙◌, inl, inr, arith, nat_lt}
-use Rattle.std.specs.Prelude.{◌⊎◌, ◌&&◌}
+use Rattle.std.proofs.Common.{◌≡◌, ℕ, zero, suc, ◌+◌, ◌<◌, ◌≤◌, false, List, [], ◌∷◌, Option, Some, None, refl, ap, ◌∙◌, inl, inr, arith, nat_lt}
+use Rattle.std.specs.Prelude.{◌⊎◌}
+use Rattle.std.proofs.lemmas.Bool.{lt-ltb, le-ltb}
+use Rattle.std.proofs.Math.Bool.{and-false}
 use Rattle.lz_tree.specs.declared.token.Token.{Token}
 use Rattle.lz_expr.specs.Reading.{Outcome, gives, refused, Reader, and_then, token, starts, shows, climb}
 use Rattle.lz_expr.specs.Grammar.{shown_at, with_rest}
-
-lt_true : (a b : ℕ) → a < b → nat_lt a b ≡ true
-lt_true a b h = grind arith
-
-lt_false : (a b : ℕ) → b ≤ a → nat_lt a b ≡ false
-lt_false a b h = grind arith
-
-and_false : (a : Bool) → (a && false) ≡ false
-and_false true = refl
-and_false false = refl
 
 module _ {T O : Type 0} (show : Token → Option O) (height : T → ℕ) (make : ℕ → O → T → T → T) (top : ℕ) (rr : Reader Token T) where
   abbrev climbs : ℕ → ℕ → T → Reader Token T
@@ -31,7 +23,7 @@ module _ {T O : Type 0} (show : Token → Option O) (height : T → ℕ) (make :
           let p : (x, ts) ≡ (op, after) = cc in
           let op_is : x ≡ op = ap (λ (q : O × List Token). q.0) p in
           let after_is : ts ≡ after = ap (λ (q : O × List Token). q.1) p in
-          rw (lt_true (height t) top h) (rw s (rw after_is (rw k (rw op_is refl))))
+          rw (lt-ltb (height t) top h) (rw s (rw after_is (rw k (rw op_is refl))))
 
   some_turn : (k : ℕ) → 0 < k → (m : ℕ) × (k ≡ suc m)
   some_turn zero h = absurd (omega arith)
@@ -64,8 +56,8 @@ module _ {T O : Type 0} (show : Token → Option O) (height : T → ℕ) (make :
   over_at : (line turns : ℕ) (t : T) (ts : List Token) → (top ≤ height t) ⊎ (shown_at show ts ≡ None) → climbs line turns t ts ≡ gives t ts
   unfolding climb
   over_at line zero t ts e = refl
-  over_at line (suc turns) t ts (inl h) = rw (lt_false (height t) top h) refl
-  over_at line (suc turns) t ts (inr e) = rw (none_starts ts e) (rw (and_false (nat_lt (height t) top)) refl)
+  over_at line (suc turns) t ts (inl h) = rw (le-ltb (height t) top h) refl
+  over_at line (suc turns) t ts (inr e) = rw (none_starts ts e) (rw (and-false (nat_lt (height t) top)) refl)
 
   -- no operator, or no room for one
   pub over : (whole : Outcome Token T) (line turns : ℕ) (t : T) (ts : List Token) → whole ≡ climbs line turns t ts → (top ≤ height t) ⊎ (shown_at show ts ≡ None) → whole ≡ gives t ts

@@ -1,6 +1,7 @@
 -- `? :` and assignments are read exactly where their parts are.
 use Rattle.std.proofs.Common.{◌≡◌, ℕ, suc, ◌<◌, ◌≤◌, Bool, true, false, List, ◌++◌, Option, Some, None, refl, sym, ap, subst, ◌∙◌, inl, inr, arith, nat_lt}
 use Rattle.std.specs.Prelude.{◌⊎◌, ◌&&◌, ◌||◌}
+use Rattle.std.proofs.lemmas.Bool.{and_parts, lt-ltb, ltb-true}
 use Rattle.lz_tree.specs.declared.token.Token.{Token}
 use Rattle.lz_tree.specs.declared.token.TokenKind.{TokenKind}
 use Rattle.lz_tree.specs.declared.token.TokenKind.TheVariants as kinds
@@ -19,8 +20,6 @@ use Rattle.lz_expr.proofs.TailLemmas.{Extended, row_tail}
 use Rattle.lz_expr.proofs.TokensLemmas.{the_mark, the_mark_shows, token_of, mark_is, mark_shows, is_mark_is, shows_some, some_shows, line_leads}
 use Rattle.lz_expr.proofs.GoesLemmas.{below, goes, choose_goes, assign_goes, class_goes, Flat, is_flat, flat_of, goes_quiet, choose_quiet, colon_stops}
 use Rattle.lz_expr.proofs.ExpressionsLemmas.{tall, level_small, loose_small, some_text}
-use Rattle.lz_expr.proofs.TargetsLemmas.{lt_true, lt_from, and_first}
-use Rattle.lz_expr.proofs.UnaryLemmas.{and_second}
 
 up_to : (n m : ℕ) → n ≤ suc m → (n ≤ m) ⊎ (n ≡ suc m)
 up_to n m h = grind arith
@@ -95,11 +94,11 @@ module _ (h : ℕ) (inner : ℕ → Reader Token Expression) (rows : 0 < h → (
   chosen_row some p = row_token (mark_shown marks.Question) (yes_text p) _ (choose_goes h) (the_mark marks.Question) _ (the_mark_shows marks.Question) (yes_row some p)
 
   room : (e : Expression) → nat_lt (expression_height e) (suc h) ≡ true → 0 < h
-  room e q = let high = tall e in let below = lt_from (expression_height e) (suc h) q in omega arith
+  room e q = let high = tall e in let below = ltb-true (expression_height e) (suc h) q in omega arith
 
   chosen_more : (p : ℕ × Expression) (t : Expression) (u v : List Token) → Start 10 p u → nat_lt (expression_height p.1) (suc h) ≡ true → chosen_text p t v → InExpression (suc h) 11 t (u ++ v)
   chosen_more p t u v (at, s) q (m, (a, b, same, question, (x, (a₂, b₂, same₂, x_in, (k, (a₃, b₃, same₃, colon, (y, is, y_in))))))) =
-      let below = lt_from (expression_height p.1) (suc h) q in
+      let below = ltb-true (expression_height p.1) (suc h) q in
       let made : InExpression (suc h) 11 (choose p.0 p.1 x y) (u ++ v) = record {
         low = (let i = x_in.low in let j = y_in.low in omega arith);
         tight = omega arith;
@@ -116,7 +115,7 @@ module _ (h : ℕ) (inner : ℕ → Reader Token Expression) (rows : 0 < h → (
     behind = b;
     same = same;
     start_in = (sym (line_leads a b (some_text x a sx)) ∙ ap line_at (sym same) ∙ at, record { low = omega arith; tight = omega arith; fits = fx; spells = sx });
-    may = lt_true (expression_height x) (suc h) (omega arith);
+    may = lt-ltb (expression_height x) (suc h) (omega arith);
     rest_in = (
       m,
       (
@@ -191,8 +190,8 @@ module _ (h : ℕ) (inner : ℕ → Reader Token Expression) (rows : 0 < h → (
 
   behind_row : (p : ℕ × Expression) → may_assign p ≡ true → (op : Option Binary) → Row (made (assigned p op) (InExpression h 12)) (inner 12 >>= (λ v. pure (assigned p op v))) (assign_goes h)
   behind_row p q op =
-      row_last (InExpression h 12) (inner 12) (class_goes (below h) 12) (assigned p op) (assign_goes h) (rows (lt_from 0 h (and_second (is_object p.1) (nat_lt 0 h) q)) 12 (omega arith))
-      (λ v u c m. assigned_goes p (and_first (is_object p.1) (nat_lt 0 h) q) op v c)
+      row_last (InExpression h 12) (inner 12) (class_goes (below h) 12) (assigned p op) (assign_goes h) (rows (ltb-true 0 h (and_parts (is_object p.1) (nat_lt 0 h) q).1) 12 (omega arith))
+      (λ v u c m. assigned_goes p (and_parts (is_object p.1) (nat_lt 0 h) q).0 op v c)
 
   value_row : (p : ℕ × Expression) → may_assign p ≡ true → Row (value_text p) (value_of inner h p) (assign_goes h)
   unfolding value_of
@@ -219,7 +218,7 @@ module _ (h : ℕ) (inner : ℕ → Reader Token Expression) (rows : 0 < h → (
         behind = b;
         same = same;
         start_in = (sym (line_leads a b (some_text (object at n i) a target)) ∙ ap line_at (sym same) ∙ line_is, record { low = omega arith; tight = omega arith; fits = fi; spells = target });
-        may = rw (lt_true 0 h (omega arith)) refl;
+        may = rw (lt-ltb 0 h (omega arith)) refl;
         rest_in = (op, (c, d, same₂, sign, (v, refl, record { low = omega arith; tight = level_small v; fits = fv; spells = sv })));
       }
 
@@ -247,7 +246,7 @@ module _ (h : ℕ) (inner : ℕ → Reader Token Expression) (rows : 0 < h → (
       (row_lined line_at (InExpression (suc h) 11) rt (choose_goes h) tighter (λ t u v m. line_leads u v (some_text t u m.spells)))
       (λ p. p.1) may_assign (λ c. shows (meant_by assigning_of c)) value_text (value_of inner h) (λ p. assign_goes h) value_row (InExpression (suc h) 12) (assign_goes h)
       (λ p u m. record { low = m.1.low; tight = (let t = m.1.tight in omega arith); fits = m.1.fits; spells = m.1.spells })
-      (λ p t u v s q b. value_more p t u v s (and_first (is_object p.1) (nat_lt 0 h) q) b)
+      (λ p t u v s q b. value_more p t u v s (and_parts (is_object p.1) (nat_lt 0 h) q).0 b)
       (λ t u m. assign_split t u m.low m.fits m.spells m (up_to (level t) 11 m.tight))
       (λ p t c v q m. let s = heads_token (meant_by assigning_of) (λ op. made (assigned p op) (InExpression h 12)) t c v m in some_shows (meant_by assigning_of c) s.0 s.1)
       (λ p c q i. let s = shows_some (meant_by assigning_of c) i in begins_token (meant_by assigning_of) (λ op. made (assigned p op) (InExpression h 12)) c s.0 s.1 (behind_row p q s.0).some)

@@ -1,6 +1,7 @@
 -- With which tokens an expression goes on that was read up to a height, and with which it does not.
 use Rattle.std.proofs.Common.{◌≡◌, ℕ, zero, suc, ◌≤◌, Bool, true, false, Option, Some, None, refl, ap, ◌∙◌, arith, nat_lt}
 use Rattle.std.specs.Prelude.{if◌then◌else◌, ◌&&◌, ◌||◌, ◌==◌}
+use Rattle.std.proofs.lemmas.Bool.{or_parts, or_from, and_right}
 use Rattle.lz_tree.specs.declared.token.Token.{Token}
 use Rattle.lz_tree.specs.declared.token.TokenKind.{TokenKind}
 use Rattle.lz_tree.specs.declared.token.TokenKind.TheVariants as kinds
@@ -83,27 +84,20 @@ pub record Quiet (k : Token) : Type 0 where
   pub question : is_mark marks.Question k ≡ false
   pub assigning : shows (meant_by assigning_of k) ≡ false
 
-or_both : (a b : Bool) → a ≡ false → b ≡ false → (a || b) ≡ false
-or_both a b h k = rw (h, k) refl
-
-and_last : (a b : Bool) → b ≡ false → (a && b) ≡ false
-and_last true b h = h
-and_last false b h = refl
-
 either_same : (a : Bool) → (if a then false else false) ≡ false
 either_same true = refl
 either_same false = refl
 
 object_flat : (h : ℕ) (line n : ℕ) (i : Index) (k : Token) → Flat k → named_goes h (object line n i) k ≡ false
-object_flat h line n whole k f = or_both _ _ (or_both _ _ (and_last (nat_lt 0 h) _ f.bracket) f.parenthesis) f.stepping
+object_flat h line n whole k f = or_from _ _ (or_from _ _ (and_right (nat_lt 0 h) _ f.bracket) f.parenthesis) f.stepping
 object_flat h line n (element i) k f = f.stepping
 
 address_flat : (h : ℕ) (line at n : ℕ) (i : Index) (k : Token) → Flat k → target_goes h (address line at n i) k ≡ false
-address_flat h line at n whole k f = and_last (nat_lt 0 h) _ f.bracket
+address_flat h line at n whole k f = and_right (nat_lt 0 h) _ f.bracket
 address_flat h line at n (element i) k f = refl
 
 step_flat : (h : ℕ) (line at n : ℕ) (i : Index) (up before : Bool) (k : Token) → Flat k → target_goes h (step line at n i up before) k ≡ false
-step_flat h line at n whole up true k f = and_last (nat_lt 0 h) _ f.bracket
+step_flat h line at n whole up true k f = and_right (nat_lt 0 h) _ f.bracket
 step_flat h line at n whole up false k f = refl
 step_flat h line at n (element i) up before k f = refl
 
@@ -120,7 +114,7 @@ pub goes_flat : (h c : ℕ) (e : Expression) (k : Token) → Flat k → ((n : �
 goes_flat h zero e k f none = prefix_flat h e k f
 goes_flat h (suc c) e k f none =
     let less = λ (n : ℕ) (l : n ≤ c). none n (omega arith) in
-    or_both _ _ (rw (goes_flat h c e k f less, goes_flat (below h) c (right_of e) k f less) (either_same (nat_lt c (level e)))) (and_last (nat_lt (expression_height e) (suc h)) _ (none (suc c) (omega arith)))
+    or_from _ _ (rw (goes_flat h c e k f less, goes_flat (below h) c (right_of e) k f less) (either_same (nat_lt c (level e)))) (and_right (nat_lt (expression_height e) (suc h)) _ (none (suc c) (omega arith)))
 
 no_level : (n : ℕ) (o : Option Binary) → o ≡ None → shows (of_level n o) ≡ false
 no_level n o h = rw h refl
@@ -131,11 +125,11 @@ goes_quiet h c e k f none = goes_flat h c e k f (λ n l. no_level n (meant_by op
 
 pub choose_quiet : (h : ℕ) (e : Expression) (k : Token) → Flat k → meant_by operator_of k ≡ None → is_mark marks.Question k ≡ false → choose_goes h e k ≡ false
 choose_quiet h (choose line a b c) k f none q = choose_quiet (below h) c k f none q
-choose_quiet h e k f none q = or_both _ _ (goes_quiet h 10 e k f none) (and_last (nat_lt (expression_height e) (suc h)) _ q)
+choose_quiet h e k f none q = or_from _ _ (goes_quiet h 10 e k f none) (and_right (nat_lt (expression_height e) (suc h)) _ q)
 
 assign_quiet : (h : ℕ) (e : Expression) (k : Token) → Quiet k → assign_goes h e k ≡ false
 assign_quiet h (assign line op at n i v) k q = assign_quiet (below h) v k q
-assign_quiet h e k q = or_both _ _ (choose_quiet h e k q.flat q.operator q.question) (and_last (is_object e && nat_lt 0 h) _ q.assigning)
+assign_quiet h e k q = or_from _ _ (choose_quiet h e k q.flat q.operator q.question) (and_right (is_object e && nat_lt 0 h) _ q.assigning)
 
 -- no expression goes on with a quiet token
 pub class_quiet : (h c : ℕ) (e : Expression) (k : Token) → Quiet k → class_goes h c e k ≡ false
@@ -152,22 +146,14 @@ class_quiet h c e k q = by_class (c == 12) (c == 11)
 abbrev pub is_flat : TokenKind → Bool
 is_flat k = (is_mark_kind marks.OpenBracket k || is_mark_kind marks.OpenParen k) || shows (mark_in step_of k)
 
-or_left : (a b : Bool) → (a || b) ≡ false → a ≡ false
-or_left true b h = absurd cc
-or_left false b h = refl
-
-or_right : (a b : Bool) → (a || b) ≡ false → b ≡ false
-or_right true b h = absurd cc
-or_right false b h = h
-
 pub flat_of : (k : Token) → is_flat k.kind ≡ false → Flat k
 unfolding is_mark meant_by
 flat_of k h =
-    let marks_of = or_left (is_mark_kind marks.OpenBracket k.kind || is_mark_kind marks.OpenParen k.kind) (shows (mark_in step_of k.kind)) h in
+    let marks_of = (or_parts (is_mark_kind marks.OpenBracket k.kind || is_mark_kind marks.OpenParen k.kind) (shows (mark_in step_of k.kind)) h).0 in
     record {
-      bracket = or_left (is_mark_kind marks.OpenBracket k.kind) (is_mark_kind marks.OpenParen k.kind) marks_of;
-      parenthesis = or_right (is_mark_kind marks.OpenBracket k.kind) (is_mark_kind marks.OpenParen k.kind) marks_of;
-      stepping = shows_lined (meant_by step_of) k ∙ or_right (is_mark_kind marks.OpenBracket k.kind || is_mark_kind marks.OpenParen k.kind) (shows (mark_in step_of k.kind)) h;
+      bracket = (or_parts (is_mark_kind marks.OpenBracket k.kind) (is_mark_kind marks.OpenParen k.kind) marks_of).0;
+      parenthesis = (or_parts (is_mark_kind marks.OpenBracket k.kind) (is_mark_kind marks.OpenParen k.kind) marks_of).1;
+      stepping = shows_lined (meant_by step_of) k ∙ (or_parts (is_mark_kind marks.OpenBracket k.kind || is_mark_kind marks.OpenParen k.kind) (shows (mark_in step_of k.kind)) h).1;
     }
 
 -- the kind is one with which an expression goes on
@@ -181,13 +167,13 @@ no_shown (Some x) h = absurd cc
 pub quiet_of : (k : Token) → is_loud k.kind ≡ false → Quiet k
 unfolding is_mark meant_by
 quiet_of k h =
-    let more = or_right (is_flat k.kind) (shows (mark_in operator_of k.kind) || (is_mark_kind marks.Question k.kind || shows (mark_in assigning_of k.kind))) h in
-    let last = or_right (shows (mark_in operator_of k.kind)) (is_mark_kind marks.Question k.kind || shows (mark_in assigning_of k.kind)) more in
+    let more = (or_parts (is_flat k.kind) (shows (mark_in operator_of k.kind) || (is_mark_kind marks.Question k.kind || shows (mark_in assigning_of k.kind))) h).1 in
+    let last = (or_parts (shows (mark_in operator_of k.kind)) (is_mark_kind marks.Question k.kind || shows (mark_in assigning_of k.kind)) more).1 in
     record {
-      flat = flat_of k (or_left (is_flat k.kind) (shows (mark_in operator_of k.kind) || (is_mark_kind marks.Question k.kind || shows (mark_in assigning_of k.kind))) h);
-      operator = no_shown (mark_in operator_of k.kind) (or_left (shows (mark_in operator_of k.kind)) (is_mark_kind marks.Question k.kind || shows (mark_in assigning_of k.kind)) more);
-      question = or_left (is_mark_kind marks.Question k.kind) (shows (mark_in assigning_of k.kind)) last;
-      assigning = or_right (is_mark_kind marks.Question k.kind) (shows (mark_in assigning_of k.kind)) last;
+      flat = flat_of k (or_parts (is_flat k.kind) (shows (mark_in operator_of k.kind) || (is_mark_kind marks.Question k.kind || shows (mark_in assigning_of k.kind))) h).0;
+      operator = no_shown (mark_in operator_of k.kind) (or_parts (shows (mark_in operator_of k.kind)) (is_mark_kind marks.Question k.kind || shows (mark_in assigning_of k.kind)) more).0;
+      question = (or_parts (is_mark_kind marks.Question k.kind) (shows (mark_in assigning_of k.kind)) last).0;
+      assigning = (or_parts (is_mark_kind marks.Question k.kind) (shows (mark_in assigning_of k.kind)) last).1;
     }
 
 -- no expression goes on with a punctuator that is not loud

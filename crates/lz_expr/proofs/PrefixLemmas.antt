@@ -21,6 +21,7 @@ use Rattle.lz_expr.specs.Reading.{Reader, ◌>>=◌, pure, token, starts, shows,
 use Rattle.lz_expr.specs.declared.opening.Opening.{Opening}
 use Rattle.lz_expr.specs.contracts.opening.Opening as the_opening
 use denote.Enum.Bare.{sameb}
+use Rattle.std.proofs.lemmas.Bool.{false_from_ne_true}
 use Rattle.lz_expr.specs.Grammar.{mark, lined_shown, sign, step_shown, is_object, stepped, stepped_before, address_of, key_in, key_meant, integer_key, grow, grow_by, void_pointer, integer_type, cast_type, begins_type, target, called_or_not, step_behind, named, step_before, addressed, signed, cast_from, paren_from, parenthesized, opening_of, opening_key, opens}
 use Rattle.lz_expr.proofs.RowsLemmas.{Row, made, along, row_one, row_last, row_token, row_part, row_close, row_choice, heads_token, heads_made, begins_made}
 use Rattle.lz_expr.proofs.TailLemmas.{Extended, row_tail}
@@ -29,10 +30,6 @@ use Rattle.lz_expr.proofs.GoesLemmas.{below, target_goes, called_goes, prefix_go
 use Rattle.lz_expr.proofs.TypesLemmas.{is_integer, integer_text, row_integer, type_goes}
 use Rattle.lz_expr.proofs.ExpressionsLemmas.{some_text, heads, is_opening, first_part}
 use Rattle.lz_expr.proofs.TargetsLemmas.{Of, is_called, is_named, row_target, row_called, step_no_mark}
-
-pub not_true : (q : Bool) → (q ≡ true → ⊥) → q ≡ false
-not_true true h = absurd (h refl)
-not_true false h = refl
 
 -- ---- types that a cast may name
 
@@ -106,7 +103,7 @@ no_void _ ks i e = cc
 
 integer_heads : (t : TypeName) (c : Token) (u : List Token) → integer_text t (c ∷ u) → is_key keys.Void c ≡ false
 integer_heads t c u (i, s) =
-    not_true (is_key keys.Void c) (λ h. no_void t (kinds_of u) i (ap (λ (k : TokenKind). k ∷ kinds_of u) (sym (is_key_is keys.Void c h)) ∙ s))
+    false_from_ne_true (is_key keys.Void c) (λ h. no_void t (kinds_of u) i (ap (λ (k : TokenKind). k ∷ kinds_of u) (sym (is_key_is keys.Void c h)) ∙ s))
 
 pointer_full : (t : TypeName) → pointer_text t [] → ⊥
 pointer_full t (v, (a, b, same, s, m)) = no_text a b same (some_shown (key_shown keys.Void) v a s)

@@ -1,29 +1,12 @@
 -- A tree, and more behind it where the tree allows it and the next token begins it: what follows a target, a test or an `if`.
 use Rattle.std.proofs.Common.{◌≡◌, ℕ, Bool, true, false, List, [], ◌∷◌, ◌++◌, refl, sym, ap, subst, ◌∙◌, inl, inr, append_assoc}
 use Rattle.std.specs.Prelude.{if◌then◌else◌, ◌⊎◌, ◌||◌, ◌&&◌}
+use Rattle.std.proofs.lemmas.Bool.{or_parts, and_parts, or_from}
+use Rattle.std.proofs.Math.Bool.{and-false}
 use Rattle.lz_expr.specs.Fronts.{Viable}
 use Rattle.lz_expr.specs.Reading.{Outcome, gives, refused, Reader, and_then, ◌>>=◌, starts, Ends}
 use Rattle.lz_expr.proofs.ExactLemmas.{Refused, Found, Exact, ends_append}
 use Rattle.lz_expr.proofs.RowsLemmas.{Row}
-
-and_parts : (a b : Bool) → (a && b) ≡ true → (a ≡ true) × (b ≡ true)
-and_parts true b h = (refl, h)
-and_parts false b h = absurd cc
-
-or_intro : (a b : Bool) → a ≡ false → b ≡ false → (a || b) ≡ false
-or_intro a b h k = rw (h, k) refl
-
-or_left : (a b : Bool) → (a || b) ≡ false → a ≡ false
-or_left true b h = absurd cc
-or_left false b h = refl
-
-or_right : (a b : Bool) → (a || b) ≡ false → b ≡ false
-or_right true b h = absurd cc
-or_right false b h = h
-
-and_false : (a : Bool) → (a && false) ≡ false
-and_false true = refl
-and_false false = refl
 
 -- The tree has more behind it.
 pub record Extended {K X T : Type 0} (la : X → List K → Type 0) (q : X → Bool) (lb : X → T → List K → Type 0) (t : T) (u : List K) : Type 0 where
@@ -55,11 +38,11 @@ module _ {K X T : Type 0} (la : X → List K → Type 0) (ra : Reader K X) (ga :
 
   ends_alone : (x : X) (u rest : List K) → la x u → Ends (g (alone x)) rest → Ends (ga x) rest
   ends_alone x u [] m e = tt
-  ends_alone x u (c ∷ rest) m e = or_left (ga x c) (q x && p c) (sym (goes_alone x u c m) ∙ e)
+  ends_alone x u (c ∷ rest) m e = (or_parts (ga x c) (q x && p c) (sym (goes_alone x u c m) ∙ e)).0
 
   none_starts : (x : X) (u rest : List K) → la x u → Ends (g (alone x)) rest → (q x && starts p rest) ≡ false
-  none_starts x u [] m e = and_false (q x)
-  none_starts x u (c ∷ rest) m e = or_right (ga x c) (q x && p c) (sym (goes_alone x u c m) ∙ e)
+  none_starts x u [] m e = and-false (q x)
+  none_starts x u (c ∷ rest) m e = (or_parts (ga x c) (q x && p c) (sym (goes_alone x u c m) ∙ e)).1
 
   ends_apart : (x : X) (t : T) (u v rest : List K) → la x u → q x ≡ true → lb x t v → Ends (ga x) (v ++ rest)
   ends_apart x t u [] rest m h k = absurd (some x t h k)
@@ -85,7 +68,7 @@ module _ {K X T : Type 0} (la : X → List K → Type 0) (ra : Reader K X) (ga :
 
   ends_found : (x : X) (u left : List K) → la x u → Ends (ga x) left → (q x && starts p left) ≡ false → Ends (g (alone x)) left
   ends_found x u [] m e h = tt
-  ends_found x u (c ∷ left) m e h = goes_alone x u c m ∙ or_intro (ga x c) (q x && p c) e h
+  ends_found x u (c ∷ left) m e h = goes_alone x u c m ∙ or_from (ga x c) (q x && p c) e h
 
   ends_back : (x : X) (t : T) (v left : List K) → q x ≡ true → lb x t v → Ends (gb x t) left → Ends (g t) left
   ends_back x t v [] h k e = tt
@@ -162,7 +145,7 @@ module _ {K X T : Type 0} (la : X → List K → Type 0) (ra : Reader K X) (ga :
   on_alone : (x : X) (u : List K) (c : K) → la x u → (r s : Bool) → ga x c ≡ r → (q x && p c) ≡ s → g (alone x) c ≡ true → Viable l (u ++ c ∷ [])
   on_alone x u c m true s is is₂ e = let v = a.on x u c m is in (alone v.0, v.1, into v.0 ((u ++ c ∷ []) ++ v.1) v.2)
   on_alone x u c m false true is is₂ e = let may = and_parts (q x) (p c) is₂ in on_more x u c m may.0 (begins x c may.0 may.1)
-  on_alone x u c m false false is is₂ e = let ends : g (alone x) c ≡ false = goes_alone x u c m ∙ or_intro (ga x c) (q x && p c) is is₂ in absurd cc
+  on_alone x u c m false false is is₂ e = let ends : g (alone x) c ≡ false = goes_alone x u c m ∙ or_from (ga x c) (q x && p c) is is₂ in absurd cc
 
   on_by : (t : T) (u : List K) (c : K) → ((x : X) × (alone x ≡ t) × la x u) ⊎ Extended la q lb t u → g t c ≡ true → Viable l (u ++ c ∷ [])
   on_by t u c (inl (x, is, m)) e = on_alone x u c m (ga x c) (q x && p c) refl refl (ap (λ (y : T). g y c) is ∙ e)

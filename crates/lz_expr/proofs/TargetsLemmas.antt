@@ -1,6 +1,8 @@
 -- What begins with a name is read exactly where its parts are: objects, elements, calls and steps.
 use Rattle.std.proofs.Common.{◌≡◌, ℕ, suc, ◌<◌, ◌≤◌, Bool, true, false, List, [], ◌∷◌, ◌++◌, Some, refl, sym, ap, subst, ◌∙◌, inl, inr, append_assoc, append-nil, arith, nat_lt}
 use Rattle.std.specs.Prelude.{◌⊎◌, ◌&&◌, ◌||◌, not}
+use Rattle.std.proofs.lemmas.Bool.{and_parts, lt-ltb, ltb-true}
+use Rattle.std.proofs.Math.Bool.{and-false}
 use Rattle.lz_tree.specs.declared.token.Token.{Token}
 use Rattle.lz_tree.specs.declared.token.TokenKind.{TokenKind}
 use Rattle.lz_tree.specs.declared.token.TokenKind.TheVariants as kinds
@@ -19,20 +21,6 @@ use Rattle.lz_expr.proofs.ListsLemmas.{list_of, row_list, list_apart}
 use Rattle.lz_expr.proofs.TokensLemmas.{the_mark, the_mark_shows, token_of, mark_is, mark_shows, mark_kind_is, is_mark_is, lined_to, lined_from, lined_shows, shows_some, shows_lined, line_leads, some_shown, no_text}
 use Rattle.lz_expr.proofs.GoesLemmas.{below, target_goes, called_goes, class_goes, close_bracket_stops, close_paren_stops, comma_stops}
 use Rattle.lz_expr.proofs.ExpressionsLemmas.{tall, level_small, some_text, heads, is_opening, expressions_list, expressions_back}
-
-pub lt_true : (a b : ℕ) → a < b → nat_lt a b ≡ true
-lt_true a b h = grind arith
-
-pub lt_from : (a b : ℕ) → nat_lt a b ≡ true → a < b
-lt_from a b h = grind arith
-
-pub and_first : (a b : Bool) → (a && b) ≡ true → a ≡ true
-and_first true b e = refl
-and_first false b e = absurd cc
-
-pub and_false : (a : Bool) → (a && false) ≡ false
-and_false true = refl
-and_false false = refl
 
 -- an expression of a form, up to a height
 abbrev pub Of : (Expression → Bool) → ℕ → Expression → List Token → Type 0
@@ -159,7 +147,7 @@ module _ (h : ℕ) (inner : ℕ → Reader Token Expression) (rows : 0 < h → (
             behind = b;
             same = same;
             start_in = lined_from name_shown line n a (sym (line_leads a b (some_shown name_shown n a s)) ∙ ap line_at (sym same) ∙ at) s;
-            may = lt_true 0 h (omega arith);
+            may = lt-ltb 0 h (omega arith);
             rest_in = (o, (a₂, b₂, same₂, opens, (i, (a₃, b₃, same₃, record { low = omega arith; tight = level_small i; fits = m.fits; spells = i_spells }, (e, refl, close)))));
           })
 
@@ -171,10 +159,10 @@ module _ (h : ℕ) (inner : ℕ → Reader Token Expression) (rows : 0 < h → (
   pub row_target : Row (Of is_object h) (target inner h) (target_goes h)
   unfolding target
   row_target = row_tail (showing (lined_shown name_shown)) name (λ _ _. false) (row_one (lined_shown name_shown) the_name _ name_shows) (λ n. object n.0 n.1 whole) (λ n. nat_lt 0 h) (is_mark marks.OpenBracket)
-      index_text (indexed inner h) (λ n. target_goes h) (λ n q. index_row (lt_from 0 h q) n) (Of is_object h) (target_goes h)
+      index_text (indexed inner h) (λ n. target_goes h) (λ n q. index_row (ltb-true 0 h q) n) (Of is_object h) (target_goes h)
       object_in element_in split_object
       (λ n t c v q m. let s = heads_token (mark_shown marks.OpenBracket) (index_behind n) t c v m in mark_is marks.OpenBracket c s.0 s.1)
-      (λ n c q p. begins_token (mark_shown marks.OpenBracket) (index_behind n) c c.line (mark_shows marks.OpenBracket c p) (behind_row (lt_from 0 h q) n c.line).some)
+      (λ n c q p. begins_token (mark_shown marks.OpenBracket) (index_behind n) c c.line (mark_shows marks.OpenBracket c p) (behind_row (ltb-true 0 h q) n c.line).some)
       (λ n u c m q p. refl)
       (λ n u c m. refl)
       (λ n t v c q m. refl)
@@ -292,15 +280,15 @@ module _ (h : ℕ) (inner : ℕ → Reader Token Expression) (rows : 0 < h → (
   some_heads es c u (e, (a, b, same, e_in, m)) =
       let high = tall e in
       let low = e_in.low in
-      rw (lt_true 0 h (omega arith), opening_no_paren c (in_opens e c u a b same e_in)) refl
+      rw (lt-ltb 0 h (omega arith), opening_no_paren c (in_opens e c u a b same e_in)) refl
 
   none_heads : (es : List Expression) (c : Token) (u : List Token) → no_args es (c ∷ u) → (nat_lt 0 h && not (is_mark marks.CloseParen c)) ≡ false
-  none_heads es c u m = let s = heads_made (λ m. []) (mark_shown marks.CloseParen) es c u m in rw (mark_is marks.CloseParen c s.0 s.1) (and_false (nat_lt 0 h))
+  none_heads es c u m = let s = heads_made (λ m. []) (mark_shown marks.CloseParen) es c u m in rw (mark_is marks.CloseParen c s.0 s.1) (and-false (nat_lt 0 h))
 
   pub row_arguments : Row InList (arguments inner h) (λ _ _. false)
   unfolding arguments choice
   row_arguments = row_choice (λ c. nat_lt 0 h && not (is_mark marks.CloseParen c)) some_args no_args (some_arguments inner h) (no_arguments inner h) (λ _ _. false)
-      (λ c p. some_row (lt_from 0 h (and_first (nat_lt 0 h) (not (is_mark marks.CloseParen c)) p))) no_row InList list_some list_none (λ es u m. list_back es u m.low m.fits m.spells) some_full some_heads none_heads
+      (λ c p. some_row (ltb-true 0 h (and_parts (nat_lt 0 h) (not (is_mark marks.CloseParen c)) p).0)) no_row InList list_some list_none (λ es u m. list_back es u m.low m.fits m.spells) some_full some_heads none_heads
 
   -- ---- calls
 
@@ -387,7 +375,7 @@ module _ (h : ℕ) (inner : ℕ → Reader Token Expression) (rows : 0 < h → (
   called_split _ u m = let no = m.0 in absurd cc
 
   call_apart : (e : Expression) (u : List Token) (c : Token) → Of is_object h e u → is_whole e ≡ true → is_mark marks.OpenParen c ≡ true → target_goes h e c ≡ false
-  call_apart (object line n whole) u c m q p = rw (paren_no_bracket c p) (and_false (nat_lt 0 h))
+  call_apart (object line n whole) u c m q p = rw (paren_no_bracket c p) (and-false (nat_lt 0 h))
   call_apart (object line n (element i)) u c m q p = refl
   call_apart _ u c m q p = absurd cc
 

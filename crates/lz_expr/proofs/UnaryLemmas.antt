@@ -2,6 +2,7 @@
 use Rattle.std.proofs.Common.{◌≡◌, ℕ, suc, ◌<◌, ◌≤◌, Bool, true, false, List, [], ◌∷◌, Some, None, refl, sym, ap, subst, ◌∙◌, inl, inr, arith, nat_lt}
 use Rattle.std.specs.Prelude.{if◌then◌else◌, ◌⊎◌, ◌&&◌}
 use denote.Enum.Bare.{same_true}
+use Rattle.std.proofs.lemmas.Bool.{and_parts, lt-ltb, ltb-true}
 use Rattle.lz_tree.specs.contracts.token.Keyword as keyword
 use Rattle.lz_tree.specs.declared.token.Token.{Token}
 use Rattle.lz_tree.specs.declared.token.TokenKind.{TokenKind}
@@ -23,12 +24,8 @@ use Rattle.lz_expr.proofs.RowsLemmas.{Row, made, row_one, row_choice, row_of, he
 use Rattle.lz_expr.proofs.TokensLemmas.{token_of, key_kind_is, key_shows, key_is, lined_is, lined_to, lined_from, line_leads, some_shown, no_text}
 use Rattle.lz_expr.proofs.GoesLemmas.{below, prefix_goes, class_goes}
 use Rattle.lz_expr.proofs.ExpressionsLemmas.{tall, level_small, loose_some, some_text, name_opens, mark_opens, sign_opens, step_opens, target_heads, first_part}
-use Rattle.lz_expr.proofs.TargetsLemmas.{Of, is_named, lt_true, lt_from}
+use Rattle.lz_expr.proofs.TargetsLemmas.{Of, is_named}
 use Rattle.lz_expr.proofs.PrefixLemmas.{before_text, address_text, signed_text, cast_text, paren_text, parens_text, opens_by, opens_at, row_named, row_before, row_address, row_signed, row_parens}
-
-pub and_second : (a b : Bool) → (a && b) ≡ true → b ≡ true
-and_second true b e = e
-and_second false b e = absurd cc
 
 -- a text of one language or of the other
 abbrev pub or_text : (Expression → List Token → Type 0) → (Expression → List Token → Type 0) → Expression → List Token → Type 0
@@ -242,9 +239,9 @@ module _ (h : ℕ) (inner : ℕ → Reader Token Expression) (rows : 0 < h → (
 
   row_signed_or : Row signed_or (choice (λ c. opens opening.Sign c && nat_lt 0 h) (signed inner h) from_address) (prefix_goes h)
   row_signed_or = row_choice (λ c. opens opening.Sign c && nat_lt 0 h) (signed_text h inner rows) address_or (signed inner h) from_address (prefix_goes h)
-      (λ c p. row_signed h inner rows (lt_from 0 h (and_second (opens opening.Sign c) (nat_lt 0 h) p))) row_address_or signed_or (λ t u m. inl m) (λ t u m. inr m) (λ t u m. m)
+      (λ c p. row_signed h inner rows (ltb-true 0 h (and_parts (opens opening.Sign c) (nat_lt 0 h) p).1)) row_address_or signed_or (λ t u m. inl m) (λ t u m. inr m) (λ t u m. m)
       signed_full
-      (λ t c u m. rw (opens_at opening.Sign opening.Sign c (signed_opens t c u m), lt_true 0 h (signed_room t (c ∷ u) m)) refl)
+      (λ t c u m. rw (opens_at opening.Sign opening.Sign c (signed_opens t c u m), lt-ltb 0 h (signed_room t (c ∷ u) m)) refl)
       (λ t c u m. rw (opens_address opening.Sign t c u refl refl refl refl m) refl)
 
   abbrev from_sign : Reader Token Expression
@@ -256,9 +253,9 @@ module _ (h : ℕ) (inner : ℕ → Reader Token Expression) (rows : 0 < h → (
 
   row_all : Row all_forms (choice (λ c. opens opening.Paren c && nat_lt 0 h) (parenthesized inner h) from_sign) (prefix_goes h)
   row_all = row_choice (λ c. opens opening.Paren c && nat_lt 0 h) (parens_text h inner rows) signed_or (parenthesized inner h) from_sign (prefix_goes h)
-      (λ c p. row_parens h inner rows (lt_from 0 h (and_second (opens opening.Paren c) (nat_lt 0 h) p))) row_signed_or all_forms (λ t u m. inl m) (λ t u m. inr m) (λ t u m. m)
+      (λ c p. row_parens h inner rows (ltb-true 0 h (and_parts (opens opening.Paren c) (nat_lt 0 h) p).1)) row_signed_or all_forms (λ t u m. inl m) (λ t u m. inr m) (λ t u m. m)
       parens_full
-      (λ t c u m. rw (opens_at opening.Paren opening.Paren c (parens_opens t c u m), lt_true 0 h (parens_room t (c ∷ u) m)) refl)
+      (λ t c u m. rw (opens_at opening.Paren opening.Paren c (parens_opens t c u m), lt-ltb 0 h (parens_room t (c ∷ u) m)) refl)
       (λ t c u m. rw (opens_sign t c u m) refl)
 
   -- ---- the forms are the unary expressions

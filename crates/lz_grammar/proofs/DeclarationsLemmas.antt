@@ -2,6 +2,7 @@
 use Rattle.std.proofs.Common.{◌≡◌, ◌≢◌, ℕ, ◌≤◌, Bool, true, false, List, [], ◌∷◌, ◌++◌, Option, Some, None, refl, sym, ap, subst, ◌∙◌, append_assoc, arith}
 use Rattle.std.specs.Prelude.{◌||◌}
 use Rattle.std.specs.List.{AllByRecursion}
+use Rattle.std.proofs.Math.Bool.{and-false}
 use Rattle.lz_tree.specs.declared.token.Token.{Token}
 use Rattle.lz_tree.specs.declared.token.TokenKind.{TokenKind}
 use Rattle.lz_tree.specs.declared.token.TokenKind.TheVariants as kinds
@@ -19,7 +20,6 @@ use Rattle.lz_expr.proofs.ListsLemmas.{list_of, row_list, list_apart}
 use Rattle.lz_expr.proofs.TokensLemmas.{the_mark, the_mark_shows, mark_is, mark_kind_is, some_shown}
 use Rattle.lz_expr.proofs.GoesLemmas.{below, class_goes, comma_stops, semicolon_stops}
 use Rattle.lz_expr.proofs.ExpressionsLemmas.{first_part}
-use Rattle.lz_expr.proofs.TargetsLemmas.{and_false}
 use Rattle.lz_expr.proofs.TypesLemmas.{type_goes}
 use Rattle.lz_grammar.specs.Grammar.{begins_type, lined_type, declarator, next_declarator, more_declarators, declaration}
 use Rattle.lz_grammar.proofs.AnyTypesLemmas.{TypeText, row_lined_type, type_some, type_leads, type_heads}
@@ -51,7 +51,7 @@ type_name_apart t c n h = ap shows (name_still t c.kind n h)
 
 module _ (h : ℕ) where
   length_stops : (len : Option Expression) (c : Token) → is_mark marks.OpenBracket c ≡ false → length_goes h len c ≡ false
-  length_stops None c b = rw b (and_false _)
+  length_stops None c b = rw b (and-false _)
   length_stops (Some i) c b = refl
 
   or_none : (a b : Bool) → a ≡ false → b ≡ false → (a || b) ≡ false

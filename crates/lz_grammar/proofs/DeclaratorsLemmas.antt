@@ -1,6 +1,8 @@
 -- Declarators are read exactly: a name, its length and its initializer.
 use Rattle.std.proofs.Common.{◌≡◌, ℕ, suc, ◌-◌, ◌<◌, ◌≤◌, Bool, true, false, List, [], ◌∷◌, ◌++◌, Option, Some, None, refl, sym, ap, subst, ◌∙◌, inl, inr, append_assoc, append-nil, arith, nat_lt}
 use Rattle.std.specs.Prelude.{if◌then◌else◌, ◌⊎◌, ◌&&◌, ◌||◌}
+use Rattle.std.proofs.lemmas.Bool.{and_parts, lt-ltb, ltb-true}
+use Rattle.std.proofs.Math.Bool.{and-false}
 use Rattle.lz_tree.specs.declared.token.Token.{Token}
 use Rattle.lz_tree.specs.declared.token.TokenKind.{TokenKind}
 use Rattle.lz_tree.specs.declared.token.TokenKind.TheVariants as kinds
@@ -23,8 +25,7 @@ use Rattle.lz_expr.proofs.TailLemmas.{Extended, exact_tail}
 use Rattle.lz_expr.proofs.TokensLemmas.{the_mark, the_mark_shows, the_key, the_key_shows, mark_is, mark_shows, is_mark_is, key_is, key_kind_is, lined_to, lined_from, line_leads, some_shown, no_text}
 use Rattle.lz_expr.proofs.GoesLemmas.{below, class_goes, close_bracket_stops}
 use Rattle.lz_expr.proofs.ExpressionsLemmas.{tall, level_small, some_text, heads, is_opening, expressions_list, expressions_back, first_part}
-use Rattle.lz_expr.proofs.TargetsLemmas.{lt_true, lt_from, and_false, the_name, name_shows}
-use Rattle.lz_expr.proofs.UnaryLemmas.{and_second}
+use Rattle.lz_expr.proofs.TargetsLemmas.{the_name, name_shows}
 use Rattle.lz_grammar.specs.Grammar.{opens_any, begins_expression, array_length, all_values, listed_values, single_value, word_value, first_value, plain, with_length, with_first, sized, initialized, declarator, declarator_from}
 use Rattle.lz_grammar.proofs.ValuesLemmas.{row_expr, InValues, row_values}
 
@@ -241,9 +242,9 @@ module _ (h : ℕ) where
   listed_room _ u m = let no = m.0 in absurd cc
 
   row_single_or : Row single_or (choice (λ c. begins_expression c && nat_lt 0 h) (single_value expr h) (word_value expr h)) first_goes
-  row_single_or = row_choice (λ c. begins_expression c && nat_lt 0 h) (FirstOf is_single) (FirstOf is_word) (single_value expr h) (word_value expr h) first_goes (λ c p. single_row (lt_from 0 h (and_second (begins_expression c) (nat_lt 0 h) p))) word_row
+  row_single_or = row_choice (λ c. begins_expression c && nat_lt 0 h) (FirstOf is_single) (FirstOf is_word) (single_value expr h) (word_value expr h) first_goes (λ c p. single_row (ltb-true 0 h (and_parts (begins_expression c) (nat_lt 0 h) p).1)) word_row
       single_or (λ t u m. inl m) (λ t u m. inr m) (λ t u m. m) single_full
-      (λ t c u m. rw (single_heads t c u m, lt_true 0 h (single_room t (c ∷ u) m)) refl)
+      (λ t c u m. rw (single_heads t c u m, lt-ltb 0 h (single_room t (c ∷ u) m)) refl)
       (λ t c u m. rw (word_heads t c u m).1 refl)
 
   first_into : (t : Initializer) (u : List Token) → single_or t u → InFirst t u
@@ -264,8 +265,8 @@ module _ (h : ℕ) where
   pub row_first : Row InFirst (first_value expr h) first_goes
   unfolding first_value choice
   row_first = row_choice (λ c. is_mark marks.OpenBrace c && nat_lt 1 h) (FirstOf is_listed) single_or (listed_values expr h) (choice (λ c. begins_expression c && nat_lt 0 h) (single_value expr h) (word_value expr h)) first_goes
-      (λ c p. list_row (lt_from 1 h (and_second (is_mark marks.OpenBrace c) (nat_lt 1 h) p))) row_single_or InFirst (λ t u m. m.1) first_into first_back listed_full
-      (λ t c u m. rw (listed_heads t c u m, lt_true 1 h (listed_room t (c ∷ u) m)) refl)
+      (λ c p. list_row (ltb-true 1 h (and_parts (is_mark marks.OpenBrace c) (nat_lt 1 h) p).1)) row_single_or InFirst (λ t u m. m.1) first_into first_back listed_full
+      (λ t c u m. rw (listed_heads t c u m, lt-ltb 1 h (listed_room t (c ∷ u) m)) refl)
       (λ t c u m. rw (or_no_brace t c u m) refl)
 
   -- ---- lengths
@@ -377,19 +378,19 @@ module _ (h : ℕ) where
       behind = y;
       same = same;
       start_in = m;
-      may = lt_true 0 h (length_room j y k);
+      may = lt-ltb 0 h (length_room j y k);
       rest_in = (j, ap (λ (f : Initializer). record { line = line; name = n; length = Some j; first = f }) (sym is), k);
     })
 
     sized_exact : Exact Sized (ra >>= (λ n ts. if nat_lt 0 h && starts (is_mark marks.OpenBracket) ts then (array_length expr h >>= (λ i. pure (with_length expr h n i))) ts else gives (plain expr h n) ts)) sized_goes
     sized_exact = exact_tail la ra (λ _ _. false) a (plain expr h) (λ n. nat_lt 0 h) (is_mark marks.OpenBracket) size_text (λ n. array_length expr h >>= (λ i. pure (with_length expr h n i))) (λ n d c. false)
-        (λ n q. (size_row (lt_from 0 h q) n).exact) Sized sized_goes
+        (λ n q. (size_row (ltb-true 0 h q) n).exact) Sized sized_goes
         (λ n u m. (refl, (u, [], sym (append-nil u), m, refl)))
         size_more
         (λ t u m. size_split_by t.line t.name t.length t.first u m.0 m.1)
         (λ n t c v q m. let s = heads_token (mark_shown marks.OpenBracket) length_behind m.0 c v m.2 in mark_is marks.OpenBracket c s.0 s.1)
-        (λ n t q m. (size_row (lt_from 0 h q) n).full t m)
-        (λ n c q p. let v = begins_token (mark_shown marks.OpenBracket) length_behind c c.line (mark_shows marks.OpenBracket c p) (length_behind_row (lt_from 0 h q) c.line).some in (with_length expr h n v.0, v.1, (v.0, refl, v.2)))
+        (λ n t q m. (size_row (ltb-true 0 h q) n).full t m)
+        (λ n c q p. let v = begins_token (mark_shown marks.OpenBracket) length_behind c c.line (mark_shows marks.OpenBracket c p) (length_behind_row (ltb-true 0 h q) c.line).some in (with_length expr h n v.0, v.1, (v.0, refl, v.2)))
         (λ n u c m q p. refl)
         (λ n u c m. refl)
         (λ n t v c q m. size_goes n t v c m)
@@ -456,7 +457,7 @@ module _ (h : ℕ) where
     full_split line n len cond u (x, y, same, m, (y₁, y₂, same₂, k, j)) = inr (init_split line n len cond u x y y₁ y₂ same m same₂ k j)
 
     length_apart : (len : Option Expression) (c : Token) → is_mark marks.Assign c ≡ true → length_goes len c ≡ false
-    length_apart None c p = rw (assign_no_bracket c p) (and_false (nat_lt 0 h))
+    length_apart None c p = rw (assign_no_bracket c p) (and-false (nat_lt 0 h))
     length_apart (Some i) c p = refl
 
     alone_goes : (i : Initializer) (b : Bool) (c : Token) → i ≡ nothing → init_goes i b c ≡ b

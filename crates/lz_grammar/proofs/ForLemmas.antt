@@ -1,6 +1,7 @@
 -- `for` is read exactly where its parts are.
 use Rattle.std.proofs.Common.{◌≡◌, ℕ, suc, ◌<◌, ◌≤◌, Bool, true, false, List, [], ◌∷◌, ◌++◌, Option, refl, sym, ap, subst, ◌∙◌, inl, inr, append_assoc, arith, nat_lt}
 use Rattle.std.specs.Prelude.{◌⊎◌, ◌&&◌}
+use Rattle.std.proofs.lemmas.Bool.{and_parts, lt-ltb, ltb-true}
 use Rattle.lz_tree.specs.declared.token.Token.{Token}
 use Rattle.lz_tree.specs.declared.token.Keyword.TheVariants as keys
 use Rattle.lz_tree.specs.declared.token.Punct.TheVariants as marks
@@ -15,8 +16,6 @@ use Rattle.lz_expr.proofs.RowsLemmas.{Row, made, along, row_one, row_last, row_t
 use Rattle.lz_expr.proofs.TokensLemmas.{the_mark, the_mark_shows, the_key, the_key_shows, no_text}
 use Rattle.lz_expr.proofs.GoesLemmas.{below, class_goes, semicolon_stops}
 use Rattle.lz_expr.proofs.ExpressionsLemmas.{tall, level_small, some_text}
-use Rattle.lz_expr.proofs.TargetsLemmas.{lt_true, lt_from}
-use Rattle.lz_expr.proofs.UnaryLemmas.{and_second}
 use Rattle.lz_grammar.specs.Grammar.{begins_expression, begins_type, semicolon, evaluated, declared, start, counted, maybe_then}
 use Rattle.lz_grammar.proofs.ValuesLemmas.{row_expr}
 use Rattle.lz_grammar.proofs.FormsLemmas.{statement_goes, form, eval_first, declare_first, later_no_expression, later_no_type}
@@ -120,8 +119,8 @@ module _ (h : ℕ) (inner : Reader Token Statement) where
   pub row_start : Row Start (start h) (λ _ _. false)
   unfolding start choice
   row_start = row_choice (λ c. begins_expression c && nat_lt 0 h) EvalOf declare_or (evaluated h) (choice begins_type (declared h) semicolon) (λ _ _. false)
-      (λ c p. eval_row (lt_from 0 h (and_second (begins_expression c) (nat_lt 0 h) p))) row_declare_or Start eval_start or_start start_back eval_full
-      (λ t c u m. rw (eval_first t c u (eval_form t (c ∷ u) m) m.1.spells, lt_true 0 h (eval_room t (c ∷ u) m)) refl)
+      (λ c p. eval_row (ltb-true 0 h (and_parts (begins_expression c) (nat_lt 0 h) p).1)) row_declare_or Start eval_start or_start start_back eval_full
+      (λ t c u m. rw (eval_first t c u (eval_form t (c ∷ u) m) m.1.spells, lt-ltb 0 h (eval_room t (c ∷ u) m)) refl)
       (λ t c u m. rw (or_no_expression t c u m) refl)
 
   -- ---- the whole

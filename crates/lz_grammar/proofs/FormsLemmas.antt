@@ -1,6 +1,7 @@
 -- Statements: their forms, what each begins with, and with what they go on.
 use Rattle.std.proofs.Common.{◌≡◌, ℕ, ◌<◌, ◌≤◌, Bool, true, false, List, [], ◌∷◌, Some, refl, sym, ap, ◌∙◌, inl, inr, arith}
 use Rattle.std.specs.Prelude.{◌⊎◌, ◌&&◌}
+use Rattle.std.proofs.lemmas.Bool.{false_from_ne_true}
 use Rattle.lz_tree.specs.declared.token.Token.{Token}
 use Rattle.lz_tree.specs.declared.token.TokenKind.{TokenKind}
 use Rattle.lz_tree.specs.declared.token.TokenKind.TheVariants as kinds
@@ -236,10 +237,6 @@ later_no_return s c u l m = ap (is_key_kind keys.Return) (kind_first s c u (omeg
 
 -- ---- no statement begins with `else` or `}`
 
-not_true : (q : Bool) → (q ≡ true → ⊥) → q ≡ false
-not_true true h = absurd (h refl)
-not_true false h = refl
-
 both : (q : Bool) → q ≡ true → q ≡ false → ⊥
 both q a b = let never : true ≡ false = sym a ∙ b in cc
 
@@ -258,8 +255,8 @@ unfolding is_key
 no_else s c u m = by_form (three (form s))
   where
     by_form : ((form s ≡ 0) ⊎ (form s ≡ 1)) ⊎ (2 ≤ form s) → is_key_kind keys.Else c.kind ≡ false
-    by_form (inl (inl e)) = not_true (is_key_kind keys.Else c.kind) (λ k. both (begins_expression c) (eval_first s c u e m) (not_begins c (kinds.Keyword keys.Else) (is_key_is keys.Else c k) refl))
-    by_form (inl (inr e)) = not_true (is_key_kind keys.Else c.kind) (λ k. both (begins_type c) (declare_first s c u e m) (kind_no_type c (kinds.Keyword keys.Else) (is_key_is keys.Else c k) refl))
+    by_form (inl (inl e)) = false_from_ne_true (is_key_kind keys.Else c.kind) (λ k. both (begins_expression c) (eval_first s c u e m) (not_begins c (kinds.Keyword keys.Else) (is_key_is keys.Else c k) refl))
+    by_form (inl (inr e)) = false_from_ne_true (is_key_kind keys.Else c.kind) (λ k. both (begins_type c) (declare_first s c u e m) (kind_no_type c (kinds.Keyword keys.Else) (is_key_is keys.Else c k) refl))
     by_form (inr l) = ap (is_key_kind keys.Else) (kind_first s c u l m) ∙ (kind_else s l).0
 
 pub no_close : (s : Statement) (c : Token) (u : List Token) → SpellsStatement s (c ∷ u) → is_mark marks.CloseBrace c ≡ false
@@ -267,8 +264,8 @@ unfolding is_mark
 no_close s c u m = by_form (three (form s))
   where
     by_form : ((form s ≡ 0) ⊎ (form s ≡ 1)) ⊎ (2 ≤ form s) → is_mark_kind marks.CloseBrace c.kind ≡ false
-    by_form (inl (inl e)) = not_true (is_mark_kind marks.CloseBrace c.kind) (λ k. both (begins_expression c) (eval_first s c u e m) (not_begins c (kinds.Punct marks.CloseBrace) (is_mark_is marks.CloseBrace c k) refl))
-    by_form (inl (inr e)) = not_true (is_mark_kind marks.CloseBrace c.kind) (λ k. both (begins_type c) (declare_first s c u e m) (kind_no_type c (kinds.Punct marks.CloseBrace) (is_mark_is marks.CloseBrace c k) refl))
+    by_form (inl (inl e)) = false_from_ne_true (is_mark_kind marks.CloseBrace c.kind) (λ k. both (begins_expression c) (eval_first s c u e m) (not_begins c (kinds.Punct marks.CloseBrace) (is_mark_is marks.CloseBrace c k) refl))
+    by_form (inl (inr e)) = false_from_ne_true (is_mark_kind marks.CloseBrace c.kind) (λ k. both (begins_type c) (declare_first s c u e m) (kind_no_type c (kinds.Punct marks.CloseBrace) (is_mark_is marks.CloseBrace c k) refl))
     by_form (inr l) = ap (is_mark_kind marks.CloseBrace) (kind_first s c u l m) ∙ (kind_else s l).1
 
 key_no_else : (k : Keyword) (c : Token) (x : ℕ) → is_key_kind keys.Else (kinds.Keyword k) ≡ false → key_shown k c ≡ Some x → is_key keys.Else c ≡ false
@@ -282,10 +279,6 @@ while_no_else c x h = key_no_else keys.While c x refl h
 pub mark_no_else : (p : Punct) (c : Token) (x : ℕ) → mark_shown p c ≡ Some x → is_key keys.Else c ≡ false
 unfolding is_key
 mark_no_else p c x h = ap (is_key_kind keys.Else) (mark_kind_is p c x h)
-
-pub and_none : (a b : Bool) → b ≡ false → (a && b) ≡ false
-and_none true b h = h
-and_none false b h = refl
 
 -- no statement is spelled by nothing
 pub some_statement : (s : Statement) (u : List Token) → SpellsStatement s u → u ≡ [] → ⊥

@@ -1,6 +1,7 @@
 -- Loops, `if`, expressions and labels are read exactly where their parts are.
 use Rattle.std.proofs.Common.{◌≡◌, ℕ, suc, ◌<◌, ◌≤◌, Bool, true, false, List, [], ◌∷◌, ◌++◌, Some, refl, sym, ap, subst, ◌∙◌, inl, inr, append-nil, arith}
 use Rattle.std.specs.Prelude.{◌⊎◌, ◌&&◌, ◌||◌, not, if◌then◌else◌}
+use Rattle.std.proofs.lemmas.Bool.{and_parts, and_right, not-true}
 use Rattle.lz_tree.specs.declared.token.Token.{Token}
 use Rattle.lz_tree.specs.declared.token.Keyword.TheVariants as keys
 use Rattle.lz_tree.specs.declared.token.Punct.TheVariants as marks
@@ -17,10 +18,9 @@ use Rattle.lz_expr.proofs.TailLemmas.{Extended, exact_tail}
 use Rattle.lz_expr.proofs.TokensLemmas.{the_mark, the_mark_shows, the_key, the_key_shows, mark_is, mark_kind_is, key_is, key_shows, some_shown, no_text}
 use Rattle.lz_expr.proofs.GoesLemmas.{below, class_goes, close_paren_stops, semicolon_stops, colon_stops}
 use Rattle.lz_expr.proofs.ExpressionsLemmas.{level_small}
-use Rattle.lz_expr.proofs.UnaryLemmas.{and_second}
 use Rattle.lz_grammar.specs.Grammar.{evaluated, otherwise, tested, repeated, repeated_behind, labelled, label_or_end, expression_first}
 use Rattle.lz_grammar.proofs.ValuesLemmas.{row_expr}
-use Rattle.lz_grammar.proofs.FormsLemmas.{statement_goes, form, while_no_else, and_none}
+use Rattle.lz_grammar.proofs.FormsLemmas.{statement_goes, form, while_no_else}
 use Rattle.lz_grammar.proofs.StatementsLemmas.{Of}
 
 semicolon_colon : (c : Token) (x : ℕ) → mark_shown marks.Semicolon c ≡ Some x → is_mark marks.Colon c ≡ false
@@ -40,10 +40,6 @@ not_both false b h = refl
 other : (a b : Bool) → not a ≡ false → (a && b) ≡ false → b ≡ false
 other true b h k = k
 other false b h k = absurd cc
-
-not_true : (a : Bool) → not a ≡ true → a ≡ false
-not_true true h = absurd cc
-not_true false h = refl
 
 module _ (h : ℕ) (inner : Reader Token Statement) (some : 0 < h) (rs : Row (InStatement h) inner statement_goes) where
   abbrev In : Expression → List Token → Type 0
@@ -142,7 +138,7 @@ module _ (h : ℕ) (inner : Reader Token Statement) (some : 0 < h) (rs : Row (In
   unfolding repeated_behind
   do_row = row_token (key_shown keys.Do) (λ line. along (InStatement h) (do_while_word line)) _ statement_goes (the_key keys.Do) _ (the_key_shows keys.Do) (λ line.
       row_then (InStatement h) inner statement_goes (do_while_word line) _ statement_goes rs (do_behind line)
-      (λ s t c v m. let k = heads_token (key_shown keys.While) (λ k. along (showing (mark_shown marks.OpenParen)) (do_test line s k)) t c v m in and_none (is_open s) _ (while_no_else c k.0 k.1)))
+      (λ s t c v m. let k = heads_token (key_shown keys.While) (λ k. along (showing (mark_shown marks.OpenParen)) (do_test line s k)) t c v m in and_right (is_open s) _ (while_no_else c k.0 k.1)))
 
   do_into : (t : Statement) (u : List Token) → do_text t u → Of 5 h t u
   do_into t u (line, (a, b, same, k, (body, (a₂, b₂, same₂, s_in, (j, (a₃, b₃, same₃, w, (m, (a₄, b₄, same₄, o, (test, (a₅, b₅, same₅, e_in, (n, (a₆, b₆, same₆, close, (l, is, e))))))))))))) =
@@ -301,7 +297,7 @@ module _ (h : ℕ) (inner : Reader Token Statement) (some : 0 < h) (rs : Row (In
             refl,
             record {
               low = (let x = e_in.low in let y = met_in.low in let z = s_in.low in omega arith);
-              fits = (e_in.fits, met_in.fits, (not_true (is_open met) q, s_in.fits));
+              fits = (e_in.fits, met_in.fits, (not-true (is_open met) q, s_in.fits));
               spells = (a, b, same, k, (a₂, b₂, same₂, (m, o), (a₃, b₃, same₃, e_in.spells, (a₄, b₄, same₄, (n, close), (u₅, v₅, same₅, met_in.spells, (u₆, v₆, same₆, (j, els), s_in.spells))))));
             },
           )
@@ -439,7 +435,7 @@ module _ (h : ℕ) (inner : Reader Token Statement) (some : 0 < h) (rs : Row (In
   or_row : (v : Expression) → Row (label_or v) (label_or_end inner h v) statement_goes
   unfolding label_or_end choice
   or_row v = row_choice (λ c. is_mark marks.Colon c && is_whole v) (label_text v) (end_text v) (mark marks.Colon >>= (λ m. inner >>= (λ s. pure (labelled inner h v s)))) (mark marks.Semicolon >>= (λ m. pure (eval v))) statement_goes
-      (λ c p. label_row v (and_second (is_mark marks.Colon c) (is_whole v) p))
+      (λ c p. label_row v (and_parts (is_mark marks.Colon c) (is_whole v) p).1)
       (row_last (showing (mark_shown marks.Semicolon)) (mark marks.Semicolon) (λ _ _. false) (λ m. eval v) statement_goes semicolon_row (λ x u c m. refl))
       (label_or v) (λ t u m. inl m) (λ t u m. inr m) (λ t u m. m) (label_full v)
       (λ t c u m. let s = heads_token (mark_shown marks.Colon) (label_behind v) t c u m.1 in rw (mark_is marks.Colon c s.0 s.1, m.0) refl)

@@ -1,6 +1,7 @@
 -- Statements are read exactly, up to every height.
 use Rattle.std.proofs.Common.{◌≡◌, ℕ, zero, suc, ◌<◌, ◌≤◌, Bool, true, false, List, [], ◌∷◌, refl, inl, inr, arith, nat_lt}
 use Rattle.std.specs.Prelude.{◌⊎◌, ◌&&◌}
+use Rattle.std.proofs.lemmas.Bool.{and_parts, lt-ltb, ltb-true}
 use Rattle.lz_tree.specs.declared.token.Token.{Token}
 use Rattle.lz_tree.specs.declared.token.Keyword.TheVariants as keys
 use Rattle.lz_tree.specs.declared.token.Punct.TheVariants as marks
@@ -12,8 +13,6 @@ use Rattle.lz_expr.specs.Reading.{Reader, choice}
 use Rattle.lz_expr.proofs.RowsLemmas.{Row, row_choice, row_of}
 use Rattle.lz_expr.proofs.TokensLemmas.{is_key_of, is_mark_of}
 use Rattle.lz_expr.proofs.ExpressionsLemmas.{tall}
-use Rattle.lz_expr.proofs.TargetsLemmas.{lt_true, lt_from}
-use Rattle.lz_expr.proofs.UnaryLemmas.{and_second}
 use Rattle.lz_grammar.specs.Grammar.{begins_expression, begins_type, semicolon, declared, blocked, tested, repeated, repeated_behind, counted, broken, continued, returned, expression_first, by_first, stmt}
 use Rattle.lz_grammar.proofs.FormsLemmas.{statement_goes, form, kind_first, eval_first, declare_first, later_no_expression, later_no_type, later_no_openbrace, later_no_if, later_no_while, later_no_do, later_no_for, later_no_break, later_no_continue, later_no_return, some_statement}
 use Rattle.lz_grammar.proofs.StatementsLemmas.{Of, tall_statement, row_empty, row_break, row_continue, row_return, row_declare, row_block}
@@ -154,23 +153,23 @@ module _ (h : ℕ) (inner : Reader Token Statement) (rs : 0 < h → Row (InState
       (λ s c u m. later_no_break s c u (let l = m.0 in omega arith) m.1.spells)
 
   row6 : Row (From 6 h) r6 statement_goes
-  row6 = step 6 (omega arith) (λ c. is_key keys.For c && nat_lt 0 h) (counted inner h) r7 (λ c p. row_counted h inner (lt_from 0 h (and_second (is_key keys.For c) (nat_lt 0 h) p)) (rs (lt_from 0 h (and_second (is_key keys.For c) (nat_lt 0 h) p)))) row7
-      (λ s c u m. rw (head_for s c u m.0 m.1.spells, lt_true 0 h (for_room h s (c ∷ u) m)) refl)
+  row6 = step 6 (omega arith) (λ c. is_key keys.For c && nat_lt 0 h) (counted inner h) r7 (λ c p. row_counted h inner (ltb-true 0 h (and_parts (is_key keys.For c) (nat_lt 0 h) p).1) (rs (ltb-true 0 h (and_parts (is_key keys.For c) (nat_lt 0 h) p).1))) row7
+      (λ s c u m. rw (head_for s c u m.0 m.1.spells, lt-ltb 0 h (for_room h s (c ∷ u) m)) refl)
       (λ s c u m. rw (later_no_for s c u (let l = m.0 in omega arith) m.1.spells) refl)
 
   row5 : Row (From 5 h) r5 statement_goes
-  row5 = step 5 (omega arith) (λ c. is_key keys.Do c && nat_lt 0 h) (repeated_behind inner h) r6 (λ c p. row_do h inner (lt_from 0 h (and_second (is_key keys.Do c) (nat_lt 0 h) p)) (rs (lt_from 0 h (and_second (is_key keys.Do c) (nat_lt 0 h) p)))) row6
-      (λ s c u m. rw (head_do s c u m.0 m.1.spells, lt_true 0 h (do_room h s (c ∷ u) m)) refl)
+  row5 = step 5 (omega arith) (λ c. is_key keys.Do c && nat_lt 0 h) (repeated_behind inner h) r6 (λ c p. row_do h inner (ltb-true 0 h (and_parts (is_key keys.Do c) (nat_lt 0 h) p).1) (rs (ltb-true 0 h (and_parts (is_key keys.Do c) (nat_lt 0 h) p).1))) row6
+      (λ s c u m. rw (head_do s c u m.0 m.1.spells, lt-ltb 0 h (do_room h s (c ∷ u) m)) refl)
       (λ s c u m. rw (later_no_do s c u (let l = m.0 in omega arith) m.1.spells) refl)
 
   row4 : Row (From 4 h) r4 statement_goes
-  row4 = step 4 (omega arith) (λ c. is_key keys.While c && nat_lt 0 h) (repeated inner h) r5 (λ c p. row_while h inner (lt_from 0 h (and_second (is_key keys.While c) (nat_lt 0 h) p)) (rs (lt_from 0 h (and_second (is_key keys.While c) (nat_lt 0 h) p)))) row5
-      (λ s c u m. rw (head_while s c u m.0 m.1.spells, lt_true 0 h (while_room h s (c ∷ u) m)) refl)
+  row4 = step 4 (omega arith) (λ c. is_key keys.While c && nat_lt 0 h) (repeated inner h) r5 (λ c p. row_while h inner (ltb-true 0 h (and_parts (is_key keys.While c) (nat_lt 0 h) p).1) (rs (ltb-true 0 h (and_parts (is_key keys.While c) (nat_lt 0 h) p).1))) row5
+      (λ s c u m. rw (head_while s c u m.0 m.1.spells, lt-ltb 0 h (while_room h s (c ∷ u) m)) refl)
       (λ s c u m. rw (later_no_while s c u (let l = m.0 in omega arith) m.1.spells) refl)
 
   row3 : Row (From 3 h) r3 statement_goes
-  row3 = step 3 (omega arith) (λ c. is_key keys.If c && nat_lt 0 h) (tested inner h) r4 (λ c p. row_if h inner (lt_from 0 h (and_second (is_key keys.If c) (nat_lt 0 h) p)) (rs (lt_from 0 h (and_second (is_key keys.If c) (nat_lt 0 h) p)))) row4
-      (λ s c u m. rw (head_if s c u m.0 m.1.spells, lt_true 0 h (if_room h s (c ∷ u) m)) refl)
+  row3 = step 3 (omega arith) (λ c. is_key keys.If c && nat_lt 0 h) (tested inner h) r4 (λ c p. row_if h inner (ltb-true 0 h (and_parts (is_key keys.If c) (nat_lt 0 h) p).1) (rs (ltb-true 0 h (and_parts (is_key keys.If c) (nat_lt 0 h) p).1))) row4
+      (λ s c u m. rw (head_if s c u m.0 m.1.spells, lt-ltb 0 h (if_room h s (c ∷ u) m)) refl)
       (λ s c u m. rw (later_no_if s c u (let l = m.0 in omega arith) m.1.spells) refl)
 
   row2 : Row (From 2 h) r2 statement_goes
@@ -184,8 +183,8 @@ module _ (h : ℕ) (inner : Reader Token Statement) (rs : 0 < h → Row (InState
       (λ s c u m. later_no_type s c u m.0 m.1.spells)
 
   row0 : Row (From 0 h) r0 statement_goes
-  row0 = step 0 (omega arith) (λ c. begins_expression c && nat_lt 0 h) (expression_first inner h) r1 (λ c p. row_expression_first h inner (lt_from 0 h (and_second (begins_expression c) (nat_lt 0 h) p)) (rs (lt_from 0 h (and_second (begins_expression c) (nat_lt 0 h) p)))) row1
-      (λ s c u m. rw (eval_first s c u m.0 m.1.spells, lt_true 0 h (eval_room h s (c ∷ u) m)) refl)
+  row0 = step 0 (omega arith) (λ c. begins_expression c && nat_lt 0 h) (expression_first inner h) r1 (λ c p. row_expression_first h inner (ltb-true 0 h (and_parts (begins_expression c) (nat_lt 0 h) p).1) (rs (ltb-true 0 h (and_parts (begins_expression c) (nat_lt 0 h) p).1))) row1
+      (λ s c u m. rw (eval_first s c u m.0 m.1.spells, lt-ltb 0 h (eval_room h s (c ∷ u) m)) refl)
       (λ s c u m. rw (later_no_expression s c u m.0 m.1.spells) refl)
 
   pub row_by_first : Row (InStatement (suc h)) (by_first inner h) statement_goes

@@ -1,6 +1,8 @@
 -- Each form of statement is read exactly where its parts are.
 use Rattle.std.proofs.Common.{◌≡◌, ℕ, suc, ◌<◌, ◌≤◌, Bool, true, false, List, [], ◌∷◌, ◌++◌, length, Option, Some, None, refl, sym, ap, subst, ◌∙◌, inl, inr, arith, nat_lt}
 use Rattle.std.specs.Prelude.{◌⊎◌, ◌&&◌, not, if◌then◌else◌}
+use Rattle.std.proofs.lemmas.Bool.{and_parts, lt-ltb, ltb-true, and_right}
+use Rattle.std.proofs.Math.Bool.{and-false}
 use Rattle.lz_tree.specs.declared.token.Token.{Token}
 use Rattle.lz_tree.specs.declared.token.TokenKind.TheVariants as kinds
 use Rattle.lz_tree.specs.declared.token.Keyword.{Keyword}
@@ -19,12 +21,11 @@ use Rattle.lz_expr.proofs.ListsLemmas.{list_of, row_list}
 use Rattle.lz_expr.proofs.TokensLemmas.{the_mark, the_mark_shows, the_key, the_key_shows, mark_is, is_mark_is, no_text}
 use Rattle.lz_expr.proofs.GoesLemmas.{below, class_goes, close_paren_stops, semicolon_stops}
 use Rattle.lz_expr.proofs.ExpressionsLemmas.{tall, level_small, some_text, first_part}
-use Rattle.lz_expr.proofs.TargetsLemmas.{lt_true, lt_from, and_first, and_false}
 use Rattle.lz_grammar.specs.Grammar.{begins_expression, semicolon, declared, declaration, parts, blocked, maybe_then, broken, continued, returned}
 use Rattle.lz_grammar.proofs.ValuesLemmas.{row_expr}
 use Rattle.lz_grammar.proofs.DeclaratorsLemmas.{expression_begins, not_begins}
 use Rattle.lz_grammar.proofs.DeclarationsLemmas.{row_declaration}
-use Rattle.lz_grammar.proofs.FormsLemmas.{statement_goes, form, no_else, no_close, mark_no_else, and_none}
+use Rattle.lz_grammar.proofs.FormsLemmas.{statement_goes, form, no_else, no_close, mark_no_else}
 
 -- a statement of a form, whose parts have at most the height
 abbrev pub Of : ℕ → ℕ → Statement → List Token → Type 0
@@ -135,15 +136,15 @@ module _ (h : ℕ) (inner : Reader Token Statement) where
 
     some_then_heads : (v : Option Expression) (c : Token) (u : List Token) → some_then p v (c ∷ u) → (nat_lt 0 h && not (is_mark p c)) ≡ true
     some_then_heads v c u (e, m) = first_part (λ d. (nat_lt 0 h && not (is_mark p d)) ≡ true) c u m (λ w k. some_text e w k.spells)
-        (λ w k. let high = tall e in let low = k.low in rw (lt_true 0 h (omega arith), not_mark c (is_mark p c) refl (expression_begins e c w k.spells)) refl)
+        (λ w k. let high = tall e in let low = k.low in rw (lt-ltb 0 h (omega arith), not_mark c (is_mark p c) refl (expression_begins e c w k.spells)) refl)
 
     none_then_heads : (v : Option Expression) (c : Token) (u : List Token) → none_then p v (c ∷ u) → (nat_lt 0 h && not (is_mark p c)) ≡ false
-    none_then_heads v c u m = let s = heads_made (λ m. None) (mark_shown p) v c u m in rw (mark_is p c s.0 s.1) (and_false (nat_lt 0 h))
+    none_then_heads v c u m = let s = heads_made (λ m. None) (mark_shown p) v c u m in rw (mark_is p c s.0 s.1) (and-false (nat_lt 0 h))
 
     pub row_maybe_then : Row (MaybeThen p) (maybe_then inner h p) (λ _ _. false)
     unfolding maybe_then choice
     row_maybe_then = row_choice (λ c. nat_lt 0 h && not (is_mark p c)) (some_then p) (none_then p) (expr h 12 >>= (λ e. mark p >>= (λ m. pure (Some e)))) (mark p >>= (λ m. pure None)) (λ _ _. false)
-        (λ c q. some_then_row (lt_from 0 h (and_first (nat_lt 0 h) (not (is_mark p c)) q))) none_then_row (MaybeThen p) some_then_in none_then_in then_back some_then_full some_then_heads none_then_heads
+        (λ c q. some_then_row (ltb-true 0 h (and_parts (nat_lt 0 h) (not (is_mark p c)) q).0)) none_then_row (MaybeThen p) some_then_in none_then_in then_back some_then_full some_then_heads none_then_heads
 
   semicolon_opens : (c : Token) → is_mark marks.Semicolon c ≡ true → begins_expression c ≡ false
   semicolon_opens c e = not_begins c (kinds.Punct marks.Semicolon) (is_mark_is marks.Semicolon c e) refl
@@ -220,8 +221,8 @@ module _ (h : ℕ) (inner : Reader Token Statement) where
     list_row some = row_list (is_mark marks.CloseBrace) (showing (mark_shown marks.CloseBrace)) (mark marks.CloseBrace) (InStatement h) inner statement_goes brace_row (rs some)
         (λ b c u m. mark_is marks.CloseBrace c b (heads_one (mark_shown marks.CloseBrace) b c u m))
         (λ s c u m. no_close s c u m.spells)
-        (λ s t c u m. and_none (is_open s) _ (no_else t c u m.spells))
-        (λ s b c u m. and_none (is_open s) _ (mark_no_else marks.CloseBrace c b (heads_one (mark_shown marks.CloseBrace) b c u m)))
+        (λ s t c u m. and_right (is_open s) _ (no_else t c u m.spells))
+        (λ s b c u m. and_right (is_open s) _ (mark_no_else marks.CloseBrace c b (heads_one (mark_shown marks.CloseBrace) b c u m)))
 
     -- statements up to `}`
     pub record InParts (ss : List Statement) (u : List Token) : Type 0 where
@@ -262,7 +263,7 @@ module _ (h : ℕ) (inner : Reader Token Statement) where
 
         by_room : (q : Bool) → nat_lt 0 h ≡ q
             → Row InParts (λ ts. if q then until (is_mark marks.CloseBrace) (mark marks.CloseBrace) inner (length ts) ts else (mark marks.CloseBrace >>= (λ m. pure [])) ts) (λ _ _. false)
-        by_room true e = some_parts (lt_from 0 h e)
+        by_room true e = some_parts (ltb-true 0 h e)
         by_room false e = no_parts (zero_of h e)
 
     abbrev block_text : Statement → List Token → Type 0

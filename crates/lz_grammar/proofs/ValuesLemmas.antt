@@ -1,6 +1,8 @@
 -- A list of initializers is read exactly, with a comma behind its last value or without.
 use Rattle.std.proofs.Common.{◌≡◌, ℕ, zero, suc, ◌+◌, ◌-◌, ◌<◌, ◌≤◌, Bool, true, false, List, [], ◌∷◌, ◌++◌, length, Option, Some, None, refl, ap, subst, ◌∙◌, inl, inr, arith, length-append, nat_lt}
 use Rattle.std.specs.Prelude.{if◌then◌else◌, ◌⊎◌, ◌&&◌, not}
+use Rattle.std.proofs.lemmas.Bool.{and_parts, lt-ltb, ltb-true}
+use Rattle.std.proofs.Math.Bool.{and-false}
 use Rattle.lz_tree.specs.declared.token.Token.{Token}
 use Rattle.lz_tree.specs.declared.token.TokenKind.{TokenKind}
 use Rattle.lz_tree.specs.declared.token.Punct.TheVariants as marks
@@ -17,7 +19,6 @@ use Rattle.lz_expr.proofs.TurnsLemmas.{row_turns}
 use Rattle.lz_expr.proofs.TokensLemmas.{the_mark, the_mark_shows, mark_is, mark_kind_is, is_mark_is, no_text}
 use Rattle.lz_expr.proofs.GoesLemmas.{below, class_goes, comma_stops, close_brace_stops}
 use Rattle.lz_expr.proofs.ExpressionsLemmas.{level_small, some_text, heads, is_opening, first_part}
-use Rattle.lz_expr.proofs.TargetsLemmas.{lt_true, lt_from, and_first, and_false}
 use Rattle.lz_expr.proofs.HeightsLemmas.{row_expression}
 use Rattle.lz_grammar.specs.Grammar.{values, all_values}
 
@@ -79,10 +80,10 @@ module _ (h : ℕ) (room : 1 < h) where
   more_full n v t m = turn_full n m.0 m.2
 
   more_heads : (n : ℕ) (v : Expression) (t : Values) (c : Token) (u : List Token) → made (λ r. (v ∷ r.0, r.1)) (turn_text n) t (c ∷ u) → again n c ≡ true
-  more_heads n v t c u m = let o = turn_opens n m.0 c u m.2 in rw (lt_true 0 n o.0, opening_no_brace c o.1) refl
+  more_heads n v t c u m = let o = turn_opens n m.0 c u m.2 in rw (lt-ltb 0 n o.0, opening_no_brace c o.1) refl
 
   end_heads : (n : ℕ) (v : Expression) (comma : Bool) (t : Values) (c : Token) (u : List Token) → ended v comma t (c ∷ u) → again n c ≡ false
-  end_heads n v comma t c u m = let s = heads_made (λ k. (v ∷ [], comma)) (mark_shown marks.CloseBrace) t c u m in rw (mark_is marks.CloseBrace c s.0 s.1) (and_false (nat_lt 0 n))
+  end_heads n v comma t c u m = let s = heads_made (λ k. (v ∷ [], comma)) (mark_shown marks.CloseBrace) t c u m in rw (mark_is marks.CloseBrace c s.0 s.1) (and-false (nat_lt 0 n))
 
   end_no_comma : (v : Expression) (comma : Bool) (t : Values) (c : Token) (u : List Token) → ended v comma t (c ∷ u) → is_mark marks.Comma c ≡ false
   end_no_comma v comma t c u m = let s = heads_made (λ k. (v ∷ [], comma)) (mark_shown marks.CloseBrace) t c u m in brace_no_comma c s.0 s.1
@@ -96,7 +97,7 @@ module _ (h : ℕ) (room : 1 < h) where
   module _ (n : ℕ) (rest : 0 < n → Row (turn_text n) (values expr h n) (λ _ _. false)) where
     comma_row : (v : Expression) (m : ℕ) → Row (after_comma (turn_text n) v m) (choice (again n) (next n v) (closing v true)) (λ _ _. false)
     comma_row v m = row_choice (again n) (made (λ r. (v ∷ r.0, r.1)) (turn_text n)) (ended v true) (next n v) (closing v true) (λ _ _. false)
-        (λ c p. row_last (turn_text n) (values expr h n) (λ _ _. false) (λ r. (v ∷ r.0, r.1)) (λ _ _. false) (rest (lt_from 0 n (and_first (nat_lt 0 n) (not (is_mark marks.CloseBrace c)) p))) (λ x u c m. refl))
+        (λ c p. row_last (turn_text n) (values expr h n) (λ _ _. false) (λ r. (v ∷ r.0, r.1)) (λ _ _. false) (rest (ltb-true 0 n (and_parts (nat_lt 0 n) (not (is_mark marks.CloseBrace c)) p).0)) (λ x u c m. refl))
         (end_row v true) (after_comma (turn_text n) v m) (λ t u m. inl m) (λ t u m. inr m) (λ t u m. m) (more_full n v) (more_heads n v) (end_heads n v true)
 
     behind_comma : (v : Expression) → Row (along (showing (mark_shown marks.Comma)) (after_comma (turn_text n) v)) (mark marks.Comma >>= (λ m. choice (again n) (next n v) (closing v true))) (λ _ _. false)
@@ -189,7 +190,7 @@ module _ (h : ℕ) (room : 1 < h) where
       → choice (again n) (next n v) (closing v true) ts ≡ choice (again m) (next m v) (closing v true) ts
   unfolding choice
   same_next n m v [] l k e = refl
-  same_next n m v (c ∷ ts) l k e = rw (lt_true 0 n (omega arith), lt_true 0 m (omega arith)) (by_test (not (is_mark marks.CloseBrace c)))
+  same_next n m v (c ∷ ts) l k e = rw (lt-ltb 0 n (omega arith), lt-ltb 0 m (omega arith)) (by_test (not (is_mark marks.CloseBrace c)))
     where
       by_test : (q : Bool) → (if true && q then next n v (c ∷ ts) else closing v true (c ∷ ts)) ≡ (if true && q then next m v (c ∷ ts) else closing v true (c ∷ ts))
       by_test true = ap (λ (o : Outcome Token Values). and_then o (λ r. pure {A = Values} (v ∷ r.0, r.1))) (e (c ∷ ts) l k)
