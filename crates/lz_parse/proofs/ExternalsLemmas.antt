@@ -3,6 +3,7 @@ use Rattle.std.proofs.Common.{◌≡◌, ℕ, zero, suc, ◌<◌, ◌≤◌, Boo
 use Rattle.std.specs.Prelude.{◌⊎◌, ◌&&◌, ◌||◌, not, is_some}
 use Rattle.std.specs.Option.{IsSome}
 use Rattle.std.specs.List.{AllByRecursion}
+use Rattle.std.proofs.lemmas.Bool.{and_parts}
 use Rattle.lz_tree.specs.declared.token.Token.{Token}
 use Rattle.lz_tree.specs.declared.token.Punct.{Punct}
 use Rattle.lz_tree.specs.declared.token.Punct.TheVariants as marks
@@ -21,8 +22,6 @@ use Rattle.lz_expr.specs.Grammar.{mark, expr}
 use Rattle.lz_expr.proofs.RowsLemmas.{Row, made, along, row_one, row_last, row_token, row_then, row_behind, row_choice, row_of, heads_token, heads_one, heads_made}
 use Rattle.lz_expr.proofs.TokensLemmas.{the_mark, the_mark_shows, mark_is, mark_kind_is, is_mark_of, lined_to, lined_from, line_leads, some_shown, no_text}
 use Rattle.lz_expr.proofs.ExpressionsLemmas.{first_part}
-use Rattle.lz_expr.proofs.TargetsLemmas.{and_first}
-use Rattle.lz_expr.proofs.UnaryLemmas.{and_second}
 use Rattle.lz_grammar.specs.Grammar.{begins_type, declarator_from, more_declarators, stmt, params}
 use Rattle.lz_grammar.proofs.AnyTypesLemmas.{TypeText, type_leads}
 use Rattle.lz_grammar.proofs.DeclaratorsLemmas.{Rest, rest_into, rest_back, FromName, declarator_goes, exact_from, from_some}
@@ -123,21 +122,21 @@ hidden_inside false = refl
 
 named_into : (ps : List Param) → all_named ps ≡ true → AllByRecursion (λ p. IsSome p.name) ps
 named_into [] h = tt
-named_into (p ∷ rest) h = (and_first (is_some p.name) (all_named rest) h, named_into rest (and_second (is_some p.name) (all_named rest) h))
+named_into (p ∷ rest) h = ((and_parts (is_some p.name) (all_named rest) h).0, named_into rest (and_parts (is_some p.name) (all_named rest) h).1)
 
 named_back : (ps : List Param) → AllByRecursion (λ p. IsSome p.name) ps → all_named ps ≡ true
 named_back [] h = refl
 named_back (p ∷ rest) h = rw (h.0, named_back rest h.1) refl
 
 defines_inside : (d : Heading) (ps : List Param × Bool) → may_define d ps ≡ true → is_outside d.word ≡ false
-defines_inside d ps h = not_is (is_outside d.word) (and_first (not (is_outside d.word)) (all_named ps.0) h)
+defines_inside d ps h = not_is (is_outside d.word) (and_parts (not (is_outside d.word)) (all_named ps.0) h).0
   where
     not_is : (q : Bool) → not q ≡ true → q ≡ false
     not_is true h = absurd cc
     not_is false h = refl
 
 defines_named : (d : Heading) (ps : List Param × Bool) → may_define d ps ≡ true → all_named ps.0 ≡ true
-defines_named d ps h = and_second (not (is_outside d.word)) (all_named ps.0) h
+defines_named d ps h = (and_parts (not (is_outside d.word)) (all_named ps.0) h).1
 
 -- ---- statements
 
@@ -249,7 +248,7 @@ module _ (h : ℕ) where
   end_row : (p : ℕ × Heading) (ps : List Param × Bool) → Row (EndText p ps) (body_or_end (suc h) p ps) never
   unfolding body_or_end choice
   end_row p ps = row_choice (λ c. is_mark marks.OpenBrace c && may_define p.1 ps) (FunctionText p ps) (PrototypeText p ps) (function_from (suc h) p ps) (prototype_from p ps) never
-      (λ c q. function_row p ps (and_second (is_mark marks.OpenBrace c) (may_define p.1 ps) q)) (prototype_row p ps) (EndText p ps) (λ e u m. inl m) (λ e u m. inr m) (λ e u m. m)
+      (λ c q. function_row p ps (and_parts (is_mark marks.OpenBrace c) (may_define p.1 ps) q).1) (prototype_row p ps) (EndText p ps) (λ e u m. inl m) (λ e u m. inr m) (λ e u m. m)
       (λ e m. body_some m.1.0 [] m.1.2 refl)
       (λ e c u m. rw (body_heads m.1.0 c u m.1.2, m.0) refl)
       (λ e c u m. let s = heads_made (λ m. prototype_of p ps) (mark_shown marks.Semicolon) e c u m in rw (semicolon_no_brace c s.0 s.1) refl)
@@ -274,7 +273,7 @@ module _ (h : ℕ) where
   no_call p c = not (is_mark marks.OpenParen c) && not (is_outside p.1.word)
 
   no_call_inside : (p : ℕ × Heading) (c : Token) → no_call p c ≡ true → is_outside p.1.word ≡ false
-  no_call_inside p c h = not_is (is_outside p.1.word) (and_second (not (is_mark marks.OpenParen c)) (not (is_outside p.1.word)) h)
+  no_call_inside p c h = not_is (is_outside p.1.word) (and_parts (not (is_mark marks.OpenParen c)) (not (is_outside p.1.word)) h).1
     where
       not_is : (q : Bool) → not q ≡ true → q ≡ false
       not_is true h = absurd cc
