@@ -1,10 +1,10 @@
 pub mod Loops
-pub mod Evaluating
+pub mod EvaluateLemmas
 pub mod ValueLemmas
-pub mod Drawing
-pub mod Decoding
-pub mod Reading
+pub mod DraftLemmas
+pub mod DecodeLemmas
+pub mod ExpressionLemmas
 pub mod StatementLoop
-pub mod Writing
-pub mod Stating
-pub mod Assigning
+pub mod WriteLemmas
+pub mod StatementLemmas
+pub mod AssignmentLemmas

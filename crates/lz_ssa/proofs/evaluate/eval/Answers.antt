@@ -2,7 +2,7 @@ use Rattle.std.proofs.Common.{◌≡◌, ◌+◌, ◌∙◌, length, take, slice
 use Rattle.std.proofs.lemmas.List.{length-take-le}
 use Rattle.lz_ssa.specs.declared.node.Node.{Node}
 use Rattle.lz_ssa.specs.declared.node.Node.TheVariants.{Constant}
-use Rattle.lz_ssa.proofs.Evaluating.{node_at, evaluates_on, evaluates_end, get_or_same}
+use Rattle.lz_ssa.proofs.EvaluateLemmas.{node_at, evaluates_on, evaluates_end, get_or_same}
 use Rattle.lz_ssa.proofs.evaluate.eval.Goals as goal
 
 pub word_of-requires-clause-formed : goal.word_of-requires-clause-formed

@@ -1,5 +1,5 @@
 use Rattle.std.proofs.Common.{slice_index}
-use Rattle.lz_ssa.proofs.Evaluating.{EvaluatesFrom}
+use Rattle.lz_ssa.proofs.EvaluateLemmas.{EvaluatesFrom}
 use Rattle.lz_ssa.proofs.evaluate.eval.Given as goal
 
 abbrev pub invariant-loop-i : goal.invariant-loop-i

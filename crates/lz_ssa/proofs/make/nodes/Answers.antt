@@ -1,7 +1,7 @@
 use Rattle.std.proofs.Common.{◌≡◌, sym, length, map, arith}
 use Rattle.lz_flat.specs.Programs.{statement, straight_program}
 use Rattle.lz_ssa.specs.Drafts.{progress}
-use Rattle.lz_ssa.proofs.Assigning.{begun_words, made_is, made_fails, made_formed, made_weighs, length_statements}
+use Rattle.lz_ssa.proofs.AssignmentLemmas.{begun_words, made_is, made_fails, made_formed, made_weighs, length_statements}
 use Rattle.lz_flat.proofs.WeightLemmas.{list_length}
 use Rattle.lz_ssa.proofs.make.nodes.Goals as goal
 

@@ -14,8 +14,8 @@ use Rattle.lz_ssa.specs.declared.node.Node.TheVariants as nodes
 use Rattle.lz_ssa.specs.declared.decode.Decoder.{Decoder}
 use Rattle.lz_ssa.specs.Construction.{Drawn, With, add, word_node, decode, at_place, Decoded, read_turn, read_from, read_element, expression_node}
 use Rattle.lz_ssa.proofs.ValueLemmas.{AreWords}
-use Rattle.lz_ssa.proofs.Drawing.{word_at, memory_of, Sound, Grows, Gives, grows_then, grows_none, gives_as, gives_then, add_gives, word_gives}
-use Rattle.lz_ssa.proofs.Decoding.{Means, means_of, means_grows, Decodes, decode_gives, decode_weight, test_weight}
+use Rattle.lz_ssa.proofs.DraftLemmas.{word_at, memory_of, Sound, Grows, Gives, grows_then, grows_none, gives_as, gives_then, add_gives, word_gives}
+use Rattle.lz_ssa.proofs.DecodeLemmas.{Means, means_of, means_grows, Decodes, decode_gives, decode_weight, test_weight}
 
 -- ---- the words of a draft stay as many
 

@@ -4,7 +4,7 @@ use Rattle.std.specs.Prelude.{◌==◌, if◌then◌else◌}
 use Rattle.std.proofs.lemmas.List.{length-append, get_or_append_left, get_or-append_right}
 use Rattle.std.proofs.lemmas.Nat.{and_mask}
 use Rattle.std.proofs.lemmas.Nat.Bits.{and_high_mask}
-use Rattle.std.proofs.lemmas.Bool.{eqb-true, eqb-false}
+use Rattle.std.proofs.lemmas.Bool.{eqb-true, eqb-false, eq-eqb}
 use Rattle.lz_base.specs.Words.{value_bound, truth, is_true}
 use Rattle.lz_base.specs.declared.operator.Binary.{Binary}
 use Rattle.lz_base.specs.declared.operator.Binary.TheVariants as binaries
@@ -16,7 +16,7 @@ use Rattle.lz_ssa.specs.declared.decode.Decoder.TheVariants.{Direct, Split}
 use Rattle.lz_ssa.specs.NodeValues.{node_value}
 use Rattle.lz_ssa.specs.Construction.{Drawn, With, add, join, equals, masked, Compared, compared_with, compared_none, compare_from, Decoded, group_mask, place_mask, group_size, groups_of, split_groups, decode, at_place}
 use Rattle.lz_ssa.proofs.ValueLemmas.{AreWords, values_words}
-use Rattle.lz_ssa.proofs.Drawing.{word_at, memory_of, Sound, Grows, Gives, grows_length, grows_keeps, grows_then, grows_none, grows_most, gives_as, gives_then, add_gives}
+use Rattle.lz_ssa.proofs.DraftLemmas.{word_at, memory_of, Sound, Grows, Gives, grows_length, grows_keeps, grows_then, grows_none, grows_most, gives_as, gives_then, add_gives}
 
 -- a node of a draft has a word that the inputs determine
 pub record Means (inputs : ℕ) (drawn : Drawn) (node : ℕ) (word : (ℕ → ℕ) → ℕ) : Type 0 where
@@ -157,22 +157,6 @@ both_truths true false = refl
 both_truths false true = refl
 both_truths false false = refl
 
--- equal numbers are equal by test
-eq_same : (a b : ℕ) → a ≡ b → (a == b) ≡ true
-eq_same a b e = decide (a == b) refl
-  where
-    decide : (r : Bool) → (a == b) ≡ r → (a == b) ≡ true
-    decide true h = h
-    decide false h = absurd (eqb-false a b h e)
-
--- unequal numbers are unequal by test
-eq_other : (a b : ℕ) → (a ≡ b → ⊥) → (a == b) ≡ false
-eq_other a b n = decide (a == b) refl
-  where
-    decide : (r : Bool) → (a == b) ≡ r → (a == b) ≡ false
-    decide true h = absurd (n (eqb-true a b h))
-    decide false h = h
-
 -- an index is a place exactly where its group and its place in the group are
 pub split_is : (i place : ℕ) → i < value_bound → ((bit_and i group_mask == (place / 32) * 32) && (bit_and i place_mask == (place % 32) * 1)) ≡ (i == place)
 split_is i place small =
@@ -185,7 +169,7 @@ split_is i place small =
     by_cases : (b : Bool) → (i == place) ≡ b → ((i / 32 * 32 == (place / 32) * 32) && (i % 32 == (place % 32) * 1)) ≡ b
     by_cases true e =
         let same : i ≡ place = eqb-true i place e in
-        rw (same, eq_same (place / 32 * 32) (place / 32 * 32) refl, eq_same (place % 32) (place % 32 * 1) (omega arith)) refl
+        rw (same, eq-eqb (place / 32 * 32) (place / 32 * 32) refl, eq-eqb (place % 32) (place % 32 * 1) (omega arith)) refl
     by_cases false e = by_group (i / 32 * 32 == (place / 32) * 32) refl (i % 32 == (place % 32) * 1) refl
       where
         by_group : (a : Bool) → (i / 32 * 32 == (place / 32) * 32) ≡ a → (c : Bool) → (i % 32 == (place % 32) * 1) ≡ c → (a && c) ≡ false

@@ -13,9 +13,9 @@ use Rattle.lz_ssa.specs.declared.node.Node.TheVariants as nodes
 use Rattle.lz_ssa.specs.declared.decode.Decoder.{Decoder}
 use Rattle.lz_ssa.specs.Construction.{Drawn, With, add, join, word_node, decode, at_place, Decoded, expression_node, write_word, write_turn, write_from, write_element, write_by, write}
 use Rattle.lz_ssa.proofs.ValueLemmas.{AreWords}
-use Rattle.lz_ssa.proofs.Drawing.{memory_of, Sound, Grows, Gives, grows_then, grows_none, grows_most, word_gives, with_word_sound, with_word_memory}
-use Rattle.lz_ssa.proofs.Decoding.{Means, means_of, means_grows, Decodes, decode_gives, decode_weight, test_weight, join_gives}
-use Rattle.lz_ssa.proofs.Reading.{length_memory, gives_words, chosen_word, choose_gives, value_in, expression_gives, length_bound}
+use Rattle.lz_ssa.proofs.DraftLemmas.{memory_of, Sound, Grows, Gives, grows_then, grows_none, grows_most, word_gives, with_word_sound, with_word_memory}
+use Rattle.lz_ssa.proofs.DecodeLemmas.{Means, means_of, means_grows, Decodes, decode_gives, decode_weight, test_weight, join_gives}
+use Rattle.lz_ssa.proofs.ExpressionLemmas.{length_memory, gives_words, chosen_word, choose_gives, value_in, expression_gives, length_bound}
 
 -- a draft grew to one with this memory
 pub record Writes (inputs : ℕ) (before after : Drawn) (memory : (ℕ → ℕ) → List ℕ) (weight : ℕ) : Type 0 where

@@ -17,10 +17,10 @@ use Rattle.lz_flat.proofs.StraightRunLemmas.{straight_passed, straight_taken}
 use Rattle.lz_ssa.specs.declared.node.Node.TheVariants as nodes
 use Rattle.lz_ssa.specs.Construction.{Drawn, With, add, join, write, Progress, assume_made, check_made}
 use Rattle.lz_ssa.proofs.ValueLemmas.{AreWords}
-use Rattle.lz_ssa.proofs.Drawing.{word_at, memory_of, Sound, Grows, Gives, grows_length, grows_keeps, grows_then, grows_most, add_gives}
-use Rattle.lz_ssa.proofs.Decoding.{Means, means_of, means_grows, join_gives}
-use Rattle.lz_ssa.proofs.Reading.{value_in}
-use Rattle.lz_ssa.proofs.Writing.{Writes, guarded, put_under, write_gives}
+use Rattle.lz_ssa.proofs.DraftLemmas.{word_at, memory_of, Sound, Grows, Gives, grows_length, grows_keeps, grows_then, grows_most, add_gives}
+use Rattle.lz_ssa.proofs.DecodeLemmas.{Means, means_of, means_grows, join_gives}
+use Rattle.lz_ssa.proofs.ExpressionLemmas.{value_in}
+use Rattle.lz_ssa.proofs.WriteLemmas.{Writes, guarded, put_under, write_gives}
 
 -- ---- what two nodes and a memory say of what is left of a program, which as a whole comes to a fate
 

@@ -18,9 +18,9 @@ use Rattle.lz_ssa.specs.NodeWeight.{nodes_weight}
 use Rattle.lz_ssa.specs.Assignment.{FailsAsStraight}
 use Rattle.lz_ssa.specs.Construction.{Drawn, With, add, expression_node, Progress, instruction_made, statement_made, statements_made, begin, constructed}
 use Rattle.lz_ssa.proofs.ValueLemmas.{AreWords}
-use Rattle.lz_ssa.proofs.Drawing.{word_at, memory_of, held_word, IsHeldOf, Sound, add_gives}
-use Rattle.lz_ssa.proofs.Reading.{gives_words, value_in, expression_gives, moved_back}
-use Rattle.lz_ssa.proofs.Stating.{Left, lost, dead, goes, Stated, guarded_by, set_stated, assume_stated, check_stated}
+use Rattle.lz_ssa.proofs.DraftLemmas.{word_at, memory_of, held_word, IsHeldOf, Sound, add_gives}
+use Rattle.lz_ssa.proofs.ExpressionLemmas.{gives_words, value_in, expression_gives, moved_back}
+use Rattle.lz_ssa.proofs.StatementLemmas.{Left, lost, dead, goes, Stated, guarded_by, set_stated, assume_stated, check_stated}
 
 -- a statement, with what it weighs
 record StatedBy (inputs : ℕ) (before after : Progress) (i : ℕ) (first : Statement) : Type 0 where
