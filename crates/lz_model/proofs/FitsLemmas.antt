@@ -2,6 +2,8 @@
 use Rattle.std.proofs.Common.{◌≡◌, ℕ, ◌+◌, ◌≤◌, ◌<◌, Bool, true, false, cond, List, [], ◌∷◌, nat_lt, refl, arith}
 use Rattle.std.specs.Prelude.{if◌then◌else◌}
 use Rattle.lz_base.specs.Descents.{descents}
+use Rattle.lz_model.specs.LeftOut.{kept}
+use Rattle.lz_model.specs.Rounds.{rounds_of}
 
 -- the first list's threads stand in the second, in order; one may stand for several in a row
 pub data Fits : List ℕ → List ℕ → Type 0 where
@@ -83,3 +85,17 @@ fits_descents {run = run} {bs = bs} fits =
     from_nought : (bs : List ℕ) → descents (0 ∷ bs) ≤ descents bs
     from_nought [] = omega arith
     from_nought (b ∷ bs) = let z = down_ge 0 b (let z : 0 ≤ b = omega arith in z) in omega (arith, z)
+
+all_fit : (threads : List ℕ) → Fits threads threads
+all_fit [] = nothing
+all_fit (thread ∷ threads) = stay (next (all_fit threads))
+
+kept_fits : (places : List Bool) (threads : List ℕ) → Fits (kept places threads) threads
+kept_fits [] threads = all_fit threads
+kept_fits (keeps ∷ places) [] = nothing
+kept_fits (true ∷ places) (thread ∷ threads) = stay (next (kept_fits places threads))
+kept_fits (false ∷ places) (thread ∷ threads) = next (kept_fits places threads)
+
+-- leaving threads out makes no more rounds
+pub fewer_rounds : (places : List Bool) (threads : List ℕ) → rounds_of (kept places threads) ≤ rounds_of threads
+fewer_rounds places threads = let fewer = fits_descents (kept_fits places threads) in omega (arith, fewer)

@@ -10,3 +10,5 @@ pub mod FitsLemmas
 pub mod LocLemmas
 pub mod ScheduleLemmas
 pub mod StoreLemmas
+pub mod ForksLemmas
+pub mod OneRunLemmas

@@ -7,7 +7,7 @@ use Rattle.lz_model.specs.declared.actions.Action.TheVariants.{Loc, Input, Check
 use Rattle.lz_model.specs.declared.actions.Event.{Event}
 use Rattle.lz_model.specs.Actions.{Act, act_of, event_of, is_loc, Start, started_by, is_shared}
 use Rattle.lz_model.specs.Store.{State, Acted, went, blocked, broke, is_halted, held_by_another, act_free, act}
-use Rattle.lz_model.specs.Interleavings.{Process, Course, stuck, broken, course_after, course, part, start_or, start_of, MayDo, MayDoIn}
+use Rattle.lz_model.specs.Interleavings.{Process, Course, stuck, broken, course_after, course, part, start_or, start_of, MayDo, MayDoIn, IsRun}
 use Rattle.lz_model.specs.BrokenRuns.{IsBrokenRun, rounds_of_run}
 use Rattle.lz_model.specs.WithoutLoc.{left_out, without_loc, events_without_loc, bare}
 use Rattle.lz_model.proofs.FitsLemmas.{Fits, nothing, stay, next, fits_descents}
@@ -92,27 +92,27 @@ start_erased : (u : ℕ) (es : List Event) → start_of u (events_without_loc es
 start_erased u [] = refl
 start_erased u (e ∷ rest) = start_step u e rest (is_loc e.action) refl (start_erased u rest)
 
-course_event : (e : Event) (rest : List Event) (kind : BreakKind) (line : ℕ) (r : Acted)
-    → ((s : State) → course rest s ≡ broken kind line → course (events_without_loc rest) s ≡ broken kind line)
-    → course_after r e.line rest (course rest) ≡ broken kind line → course_after r e.line (events_without_loc rest) (course (events_without_loc rest)) ≡ broken kind line
-course_event e rest kind line (went s) ih h = ih s h
-course_event e rest kind line blocked ih h = absurd cc
-course_event e [] kind line (broke k) ih h = h
-course_event e (f ∷ rest) kind line (broke k) ih h = absurd cc
+course_event : (e : Event) (rest : List Event) (end : Course) (r : Acted) → end ≢ stuck → ((s : State) → course rest s ≡ end → course (events_without_loc rest) s ≡ end)
+    → course_after r e.line rest (course rest) ≡ end → course_after r e.line (events_without_loc rest) (course (events_without_loc rest)) ≡ end
+course_event e rest end (went s) on ih h = ih s h
+course_event e rest end blocked on ih h = absurd (on (sym h))
+course_event e [] end (broke k) on ih h = h
+course_event e (f ∷ rest) end (broke k) on ih h = absurd (on (sym h))
 
-course_step : (e : Event) (rest : List Event) (s : State) (kind : BreakKind) (line : ℕ) (b : Bool) → is_loc e.action ≡ b
-    → ((s2 : State) → course rest s2 ≡ broken kind line → course (events_without_loc rest) s2 ≡ broken kind line)
-    → course_after (act s e.thread e.action) e.line rest (course rest) ≡ broken kind line → course (left_out b e (events_without_loc rest)) s ≡ broken kind line
-course_step e rest s kind line true h ih is = by (loc_stays s e.thread e.action h)
+course_step : (e : Event) (rest : List Event) (s : State) (end : Course) (b : Bool) → is_loc e.action ≡ b → end ≢ stuck
+    → ((s2 : State) → course rest s2 ≡ end → course (events_without_loc rest) s2 ≡ end)
+    → course_after (act s e.thread e.action) e.line rest (course rest) ≡ end → course (left_out b e (events_without_loc rest)) s ≡ end
+course_step e rest s end true h on ih is = by (loc_stays s e.thread e.action h)
   where
-    by : (act s e.thread e.action ≡ went s) ⊎ (act s e.thread e.action ≡ blocked) → course (events_without_loc rest) s ≡ broken kind line
-    by (inl g) = ih s (subst (λ (r : Acted). course_after r e.line rest (course rest) ≡ broken kind line) g is)
-    by (inr w) = let z : stuck ≡ broken kind line = subst (λ (r : Acted). course_after r e.line rest (course rest) ≡ broken kind line) w is in absurd cc
-course_step e rest s kind line false h ih is = course_event e rest kind line (act s e.thread e.action) ih is
+    by : (act s e.thread e.action ≡ went s) ⊎ (act s e.thread e.action ≡ blocked) → course (events_without_loc rest) s ≡ end
+    by (inl g) = ih s (subst (λ (r : Acted). course_after r e.line rest (course rest) ≡ end) g is)
+    by (inr w) = let z : stuck ≡ end = subst (λ (r : Acted). course_after r e.line rest (course rest) ≡ end) w is in absurd (on (sym z))
+course_step e rest s end false h on ih is = course_event e rest end (act s e.thread e.action) on ih is
 
-course_erased : (kind : BreakKind) (line : ℕ) (es : List Event) (s : State) → course es s ≡ broken kind line → course (events_without_loc es) s ≡ broken kind line
-course_erased kind line [] s h = absurd cc
-course_erased kind line (e ∷ rest) s h = course_step e rest s kind line (is_loc e.action) refl (λ s2. course_erased kind line rest s2) h
+-- where events lead, they lead without Loc
+course_erased : (end : Course) → end ≢ stuck → (es : List Event) (s : State) → course es s ≡ end → course (events_without_loc es) s ≡ end
+course_erased end on [] s h = h
+course_erased end on (e ∷ rest) s h = course_step e rest s end (is_loc e.action) refl on (λ s2. course_erased end on rest s2) h
 
 not_stuck : (kind : BreakKind) (line : ℕ) (c : Course) → c ≡ broken kind line → c ≢ stuck
 not_stuck kind line c e h = let z : broken kind line ≡ stuck = sym e ∙ h in cc
@@ -121,19 +121,23 @@ seen_part : (process : Process) (o : Option Start) (acts : List Act) → MayDo p
 seen_part process None acts h = ap without_loc h
 seen_part process (Some start) acts h = record { full = acts; does = h; seen = refl }
 
--- a broken run, Loc left out, is one of the bare process
-pub bare_breaks : (process : Process) (run : List Event) (kind : BreakKind) (line : ℕ) → IsBrokenRun process run kind line → IsBrokenRun (bare process) (events_without_loc run) kind line
-bare_breaks process run kind line is = record { is = record { parts = parts; goes = not_stuck kind line (course (events_without_loc run) process.begins) breaks }; breaks = breaks }
+-- a run, Loc left out, is one of the bare process
+pub bare_run : (process : Process) (run : List Event) → IsRun process run → IsRun (bare process) (events_without_loc run)
+bare_run process run is = record { parts = parts; goes = λ h. is.goes (sym (course_erased (course run process.begins) is.goes run process.begins refl) ∙ h) }
   where
-    breaks : course (events_without_loc run) process.begins ≡ broken kind line
-    breaks = course_erased kind line run process.begins is.breaks
-
     parts : (thread : ℕ) → MayDoIn (bare process) (events_without_loc run) thread (part thread (events_without_loc run))
-    parts zero = record { full = part 0 run; does = is.is.parts 0; seen = sym (part_erased 0 run) }
+    parts zero = record { full = part 0 run; does = is.parts 0; seen = sym (part_erased 0 run) }
     parts (suc thread) =
         subst (λ (o : Option Start). MayDo (bare process) o (part (suc thread) (events_without_loc run))) (sym (start_erased (suc thread) run))
         (subst (λ (acts : List Act). MayDo (bare process) (start_of (suc thread) run) acts) (sym (part_erased (suc thread) run))
-        (seen_part process (start_of (suc thread) run) (part (suc thread) run) (is.is.parts (suc thread))))
+        (seen_part process (start_of (suc thread) run) (part (suc thread) run) (is.parts (suc thread))))
+
+-- a broken run, Loc left out, is one of the bare process
+pub bare_breaks : (process : Process) (run : List Event) (kind : BreakKind) (line : ℕ) → IsBrokenRun process run kind line → IsBrokenRun (bare process) (events_without_loc run) kind line
+bare_breaks process run kind line is = record {
+  is = bare_run process run is.is;
+  breaks = course_erased (broken kind line) (λ h. cc) run process.begins is.breaks;
+}
 
 -- ---- Loc put in again
 

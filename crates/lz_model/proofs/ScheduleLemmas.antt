@@ -15,11 +15,11 @@ use Rattle.lz_model.proofs.RunFrontsLemmas.{IsOpen}
 use Rattle.lz_model.proofs.LocLemmas.{bare_breaks, full_breaks}
 
 -- an action but Loc has a choice
-record HasChoice (action : Action) : Type 0 where
-  choice : ℕ
-  is : choice_of action ≡ Some choice
+pub record HasChoice (action : Action) : Type 0 where
+  pub choice : ℕ
+  pub is : choice_of action ≡ Some choice
 
-has_choice : (a : Action) → is_loc a ≡ false → HasChoice a
+pub has_choice : (a : Action) → is_loc a ≡ false → HasChoice a
 has_choice Loc e = absurd cc
 has_choice (Input v) e = record { choice = v; is = refl }
 has_choice (Check v kind) e = record { choice = 0; is = refl }

@@ -13,3 +13,4 @@ pub mod Behaviours
 pub mod CodeTraces
 pub mod Programs
 pub mod WithoutLoc
+pub mod LeftOut

@@ -4,6 +4,7 @@ ghost use Rattle.lz_tree.specs.ScopedTrees.{ScopedProgram};
 ghost use Rattle.lz_model.specs.declared.actions.Event.{Event};
 ghost use Rattle.lz_model.specs.declared.schedule.Step.{Step};
 ghost use Rattle.lz_model.specs.Actions.{Act};
+ghost use Rattle.lz_model.specs.LeftOut.{kept};
 ghost use Rattle.lz_model.specs.Rounds.{rounds_of, threads_of};
 ghost use Rattle.lz_model.specs.Interleavings.{IsRun};
 ghost use Rattle.lz_model.specs.BrokenRuns.{IsBrokenRun, rounds_of_run, schedule_of, Follows};
@@ -31,8 +32,19 @@ pub fn broken_in_its_rounds()
     ensures { (p : ScopedProgram) (n : ℕ) (run : List Event) (schedule : List Step) (kind : BreakKind) (line : ℕ) → IsBrokenRun (process_of p n) run kind line → Follows run schedule → (other : List Event) × IsBrokenRun (process_of p n) other kind line × Follows other schedule × (rounds_of_run other ≡ rounds_of (threads_of schedule)) }
 {}
 
+/// Leaving elements out never raises the number of rounds.
+pub fn leaving_out_begins_no_round()
+    ensures { (places : List Bool) (threads : List ℕ) → rounds_of (kept places threads) ≤ rounds_of threads }
+{}
+
 /// What breaks with Loc left out breaks with it, and the other way round, with the same schedule and in no more rounds.
 pub fn broken_without_loc()
     ensures bare { (p : ScopedProgram) (n : ℕ) (run : List Event) (kind : BreakKind) (line : ℕ) → IsBrokenRun (process_of p n) run kind line → IsBrokenRun (bare (process_of p n)) (events_without_loc run) kind line }
     ensures full { (p : ScopedProgram) (n : ℕ) (run : List Event) (kind : BreakKind) (line : ℕ) → IsBrokenRun (bare (process_of p n)) run kind line → (full : List Event) × IsBrokenRun (process_of p n) full kind line × (events_without_loc full ≡ run) × (rounds_of_run full ≤ rounds_of_run run) }
+{}
+
+/// Two runs that follow one schedule agree, Loc left out: what a read finds and which thread is made the state settles,
+/// what is put in and whom a signal wakes the schedule's choices, and all else the code.
+pub fn one_run_a_schedule()
+    ensures { (p : ScopedProgram) (n : ℕ) (run other : List Event) (schedule : List Step) → IsRun (process_of p n) run → IsRun (process_of p n) other → Follows run schedule → Follows other schedule → events_without_loc run ≡ events_without_loc other }
 {}
