@@ -10,3 +10,4 @@ pub mod TableLemmas
 pub mod TabledLemmas
 pub mod KeptLemmas
 pub mod VisitLemmas
+pub mod GuardLemmas

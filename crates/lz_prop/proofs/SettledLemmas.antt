@@ -47,7 +47,7 @@ satisfied_is_open true_ clause lit consistent has is_true =
       not_false = λ all. not_both true_ lit consistent is_true (All-contains (IsFalseLit true_) clause lit all has);
     }
 
-two_are_open : (true_ clause : List Lit) (a b : Lit) → (a ≡ b → ⊥) → Contains clause a → Contains clause b → (IsFalseLit true_ a → ⊥) → (IsFalseLit true_ b → ⊥) → IsOpen true_ clause
+pub two_are_open : (true_ clause : List Lit) (a b : Lit) → (a ≡ b → ⊥) → Contains clause a → Contains clause b → (IsFalseLit true_ a → ⊥) → (IsFalseLit true_ b → ⊥) → IsOpen true_ clause
 two_are_open true_ clause a b differ has_a has_b a_left b_left =
     record {
       not_unit = λ unit. ⊎_elim

@@ -8,3 +8,4 @@ pub mod Further
 pub mod Visit
 pub mod Standing
 pub mod Outcome
+pub mod Guarded
