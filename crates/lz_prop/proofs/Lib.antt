@@ -2,11 +2,14 @@ pub mod LitLemmas
 pub mod EntryLemmas
 pub mod TrailLemmas
 pub mod BackLemmas
-pub mod StandingLemmas
+pub mod ScanLemmas
 pub mod StoreLemmas
 pub mod StoredLemmas
-pub mod SettledLemmas
+pub mod OpenLemmas
+pub mod WatchLemmas
 pub mod TableLemmas
 pub mod TabledLemmas
+pub mod GuardLemmas
 pub mod KeptLemmas
-pub mod VisitLemmas
+pub mod LookLemmas
+pub mod WalkLemmas
