@@ -1,0 +1,2 @@
+pub mod StatementsLemmas
+pub mod StationsLemmas

@@ -1,0 +1,4 @@
+pub mod StationMoves
+pub mod StationTraces
+pub mod Stations
+pub mod StationsHeld
