@@ -38,7 +38,7 @@ declarators_none [] (suc k) e = refl
 declarators_none (d ∷ rest) zero e = absurd cc
 declarators_none (d ∷ rest) (suc k) e = declarators_none rest k e
 
-declarators_some : (ds : List ScopedInitDeclarator) (k : ℕ) (d : ScopedInitDeclarator) → declarator_at ds k ≡ Some d → declarators_from ds k ≡ d ∷ declarators_from ds (suc k)
+pub declarators_some : (ds : List ScopedInitDeclarator) (k : ℕ) (d : ScopedInitDeclarator) → declarator_at ds k ≡ Some d → declarators_from ds k ≡ d ∷ declarators_from ds (suc k)
 declarators_some [] k d e = absurd cc
 declarators_some (x ∷ rest) zero d e = let same : x ≡ d = cc in ap (λ (y : ScopedInitDeclarator). y ∷ rest) same
 declarators_some (x ∷ rest) (suc k) d e = declarators_some rest k d e

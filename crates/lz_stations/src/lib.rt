@@ -7,7 +7,7 @@ mod statements;
 mod station;
 mod writes;
 
-pub use laws::a_turn_of_a_statement;
+pub use laws::{a_turn_of_a_statement, steps_end};
 pub use statements::station_move;
 pub use station::{Flow, Station, StationMove};
 pub use writes::station_writes;
