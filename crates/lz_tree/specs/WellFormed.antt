@@ -1,5 +1,4 @@
--- Trusted: which trees are well formed: levels of operands, `else` at the nearest `if`, heights, and lists that are not
--- empty.
+-- Trusted: which trees are well formed: levels of operands, `else` at the nearest `if`, heights, and lists that are not empty.
 use Rattle.std.specs.Prelude.{◌≡◌, ◌≢◌, ℕ, ◌≤◌, ◌<◌, Bool, true, false, List, [], ◌∷◌, Option, Some, None, IsSome}
 use Rattle.std.specs.List.{AllByRecursion}
 use Rattle.lz_base.specs.declared.operator.Binary.{Binary}
