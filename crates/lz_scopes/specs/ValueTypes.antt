@@ -1,5 +1,4 @@
--- Trusted: what the spelled types are, which of them are refused and which two are one type, and which type fits a
--- place that wants a value (C99 6.2.5, 6.3 and 6.7.2).
+-- Trusted: what the spelled types are, which of them are refused and which two are one type, and which type fits a place that wants a value (C99 6.2.5, 6.3 and 6.7.2).
 use Rattle.std.specs.Prelude.{Bool, true, false, ◌&&◌, List, [], ◌∷◌}
 use denote.Enum.Bare.{sameb}
 use Rattle.lz_base.specs.declared.word.IntType.{IntType}

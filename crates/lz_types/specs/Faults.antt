@@ -1,5 +1,5 @@
--- Trusted: the list of all rules that a program breaks, in the order of the text: at each node its own ones by number,
--- and then those of its parts from left to right. It is read with what is known of the whole file.
+-- Trusted: the list of all rules that a program breaks, in the order of the text: at each node its own ones by number, and then those of its parts from left to right.
+-- It is read with what is known of the whole file.
 use Rattle.std.specs.Prelude.{ℕ, nat_lt, Bool, true, false, not, ◌&&◌, ◌||◌, List, [], ◌∷◌, ◌++◌, map, length, Option, Some, None, is_some, if◌then◌else◌, slice_get}
 use Rattle.lz_tree.specs.declared.expression.TypeName.{TypeName}
 use Rattle.lz_tree.specs.declared.expression.TypeName.TheVariants as types
