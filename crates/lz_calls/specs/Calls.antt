@@ -1,4 +1,6 @@
--- Trusted: which functions the body of each one calls by the text, whatever its tests say (C99 6.5.2.2); which ones are reached by any number of such calls; how high a body is with those of the functions that it calls and that do not come back to it; and the facts of each function by these, which the rules on the whole file look up.
+-- Trusted: which functions bodies call, what is reached through calls, how high bodies are with those that they call, and the facts of each function (C99 6.5.2.2).
+-- A body calls a function by the text, whatever its tests say; calls reach what any number of them leads to; a body is as high as
+-- it is with the functions that it calls and that do not come back to it; the rules on the whole file look up the facts.
 use Rattle.std.specs.Prelude.{◌≡◌, ℕ, zero, suc, ◌+◌, ◌<◌, ◌==◌, max, nat_lt, Bool, true, false, not, IsTrue, ◌↔◌, ◌&&◌, ◌||◌, List, [], ◌∷◌, ◌++◌, map, length, Option, Some, None, if◌then◌else◌, slice_get, Result, Ok, Err}
 use Rattle.std.specs.List.{Contains, filter}
 use Rattle.lz_tree.specs.declared.scoped.Object.{Object}
