@@ -1,3 +1,5 @@
 pub mod WordsLemmas
 pub mod WordsWitnesses
+pub mod DescentsLemmas
 pub mod ListLemmas
+pub mod OptionLemmas

@@ -1,13 +1,13 @@
 -- Which piece some bytes can be, by the first of them.
 use Rattle.std.proofs.Common.{◌≡◌, ℕ, Bool, true, false, not, eqb, List, [], ◌∷◌, None, refl, sym, subst, arith}
-use Rattle.std.specs.Prelude.{◌&&◌, ◌||◌, option_map}
+use Rattle.std.specs.Prelude.{◌&&◌, option_map}
 use Rattle.std.specs.Char.{is_ascii_digit}
 use Rattle.std.specs.Option.{option_or}
 use Rattle.std.specs.Str.{bytes_eq}
-use Rattle.std.proofs.lemmas.Bool.{cond-false, and_parts, eqb-true}
+use Rattle.std.proofs.lemmas.Bool.{cond-false, and_parts, eqb-true, or_left, or_right, both_ways}
 use Rattle.std.proofs.lemmas.Bool.Decides.{nat_tests}
 use Rattle.lz_tree.specs.Pieces.{piece_of, white_of, comment_of, directive_of, word_of, integer, integer_of, character, character_of, text_of, mark, punct_of, punct_text, puncts, begins, is_white, is_word_start, is_word_byte, is_block_comment, is_line_comment, is_text, digits_of}
-use Rattle.lz_lex.proofs.PrefixLemmas.{option_or-none, none_found, false_is}
+use Rattle.lz_lex.proofs.PrefixLemmas.{option_or-none, none_found}
 
 -- ---- what a first byte rules out
 
@@ -62,7 +62,7 @@ pub punct-none : (b : ℕ) (p : List ℕ) → is_punct_byte b ≡ false → punc
 unfolding punct_of
 punct-none b p h =
     none_found (λ m. bytes_eq (b ∷ p) (punct_text m)) (λ m. begins is_punct_byte (punct_text m)) puncts refl
-    (λ m class same. false_is (is_punct_byte b) (begin_class b (punct_text m) (same_begin b p (punct_text m) same) class) h)
+    (λ m class same. both_ways (is_punct_byte b) h (begin_class b (punct_text m) (same_begin b p (punct_text m) same) class))
 
 -- ---- pieces by their first byte
 
@@ -81,19 +81,11 @@ white_facts : (b : ℕ) → is_white b ≡ true
 white_facts b h =
     (grind (arith, nat_tests), grind (arith, nat_tests), grind (arith, nat_tests), grind (arith, nat_tests), grind (arith, nat_tests), grind (arith, nat_tests))
 
-or_first : (a b : Bool) → a ≡ true → (a || b) ≡ true
-or_first true b e = refl
-or_first false b e = absurd cc
-
-or_second : (a b : Bool) → b ≡ true → (a || b) ≡ true
-or_second true b e = refl
-or_second false b e = e
-
 pub start_is_byte : (b : ℕ) → is_word_start b ≡ true → is_word_byte b ≡ true
-start_is_byte b h = or_first (is_word_start b) (is_ascii_digit b) h
+start_is_byte b h = or_left (is_word_start b) (is_ascii_digit b) h
 
 pub digit_is_byte : (b : ℕ) → is_ascii_digit b ≡ true → is_word_byte b ≡ true
-digit_is_byte b h = or_second (is_word_start b) (is_ascii_digit b) h
+digit_is_byte b h = or_right (is_word_start b) (is_ascii_digit b) h
 
 byte_no_punct : (b : ℕ) → is_word_byte b ≡ true → is_punct_byte b ≡ false
 byte_no_punct b h = rw h refl

@@ -2,10 +2,9 @@
 use Rattle.std.proofs.Common.{◌≡◌, ℕ, zero, suc, ◌<◌, ◌≤◌, Bool, true, false, cond, eqb, List, [], ◌∷◌, length, take, drop, Option, Some, None, refl, sym, ap, subst, ◌∙◌, arith, inl, inr}
 use Rattle.std.specs.Prelude.{◌&&◌, option_map}
 use Rattle.std.specs.List.{list_all}
-use Rattle.std.proofs.lemmas.Bool.{cases_Bool, cond-true, cond-false, and_parts, and_from, eqb-true}
+use Rattle.std.proofs.lemmas.Bool.{cases_Bool, cond-true, cond-false, and_parts, and_from, eqb-true, both_ways}
 use Rattle.lz_tree.specs.Pieces.{begins, is, is_newline, is_blank, ends_comment, ends_text, ends_with_blanks}
 use Rattle.lz_lex.specs.Scanning.{comment_end, text_end}
-use Rattle.lz_lex.proofs.PrefixLemmas.{false_is}
 
 pub map_suc : (o : Option ℕ) (n : ℕ) → option_map suc o ≡ Some n → (k : ℕ) × (o ≡ Some k) × (n ≡ suc k)
 map_suc None n e = absurd cc
@@ -27,7 +26,7 @@ closes_front byte i rest h =
     elim (cases_Bool (closes byte (take i rest))) [
       | inl pass ↦
           let parts = and_parts (eqb byte 42) (begins (is 47) (take i rest)) pass in
-          absurd (false_is (closes byte rest) (and_from (eqb byte 42) _ parts.0 (begins_front i rest parts.1)) h)
+          absurd (both_ways (closes byte rest) h (and_from (eqb byte 42) _ parts.0 (begins_front i rest parts.1)))
       | inr fail ↦ fail
     ]
 
@@ -37,12 +36,12 @@ ended_comment xs zero le h = absurd cc
 ended_comment [] (suc i) le h = absurd (omega arith)
 ended_comment (b ∷ []) (suc i) le h =
     let none : i ≡ 0 = omega arith in
-    absurd (false_is (ends_comment (b ∷ take i [])) h (subst (λ (n : ℕ). ends_comment (b ∷ take n []) ≡ false) (sym none) (by (eqb b 42))))
+    absurd (both_ways (ends_comment (b ∷ take i [])) (subst (λ (n : ℕ). ends_comment (b ∷ take n []) ≡ false) (sym none) (by (eqb b 42))) h)
   where
     by : (t : Bool) → cond (t && false) false false ≡ false
     by true = refl
     by false = refl
-ended_comment (b ∷ c ∷ rest) (suc zero) le h = absurd (false_is (ends_comment (b ∷ [])) h (by (eqb b 42)))
+ended_comment (b ∷ c ∷ rest) (suc zero) le h = absurd (both_ways (ends_comment (b ∷ [])) (by (eqb b 42)) h)
   where
     by : (t : Bool) → cond (t && false) false false ≡ false
     by true = refl
@@ -126,7 +125,7 @@ ended_text escaped xs zero le h = absurd cc
 ended_text escaped [] (suc i) le h = absurd (omega arith)
 ended_text true (b ∷ rest) (suc i) le h =
     elim (cases_Bool (is_newline b)) [
-      | inl pass ↦ absurd (false_is (ends_text true (b ∷ take i rest)) h (cond-true (is_newline b) _ _ pass))
+      | inl pass ↦ absurd (both_ways (ends_text true (b ∷ take i rest)) (cond-true (is_newline b) _ _ pass) h)
       | inr fail ↦
           let behind : ends_text false (take i rest) ≡ true = sym (cond-false (is_newline b) _ _ fail) ∙ h in
           cond-false (is_newline b) _ _ fail ∙ cond-false (eqb b 34 && false) _ _ (no (eqb b 34))
@@ -138,7 +137,7 @@ ended_text true (b ∷ rest) (suc i) le h =
     no false = refl
 ended_text false (b ∷ rest) (suc i) le h =
     elim (cases_Bool (is_newline b)) [
-      | inl pass ↦ absurd (false_is (ends_text false (b ∷ take i rest)) h (cond-true (is_newline b) _ _ pass))
+      | inl pass ↦ absurd (both_ways (ends_text false (b ∷ take i rest)) (cond-true (is_newline b) _ _ pass) h)
       | inr fail ↦
           let more : cond (eqb b 34) (eqb (length (take i rest)) 0) (ends_text (eqb b 92) (take i rest)) ≡ true = sym (cond-false (is_newline b) _ _ fail) ∙ h in
           cond-false (is_newline b) _ _ fail ∙ elim (cases_Bool (eqb b 34)) [

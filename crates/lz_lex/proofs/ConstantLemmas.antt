@@ -10,8 +10,10 @@ use Rattle.std.proofs.lemmas.Bool.Decides.{nat_tests}
 use Rattle.std.proofs.lemmas.List.{take-append-drop}
 use Rattle.std.proofs.lemmas.List.Folds.{list_all-append}
 use Rattle.std.proofs.lemmas.Slice.Eq.{bytes_eq-Decides}
+use Rattle.lz_base.proofs.OptionLemmas.{if_some}
 use Rattle.lz_tree.specs.Pieces.{ConstantPiece, Suffix, suffixes, suffix_of, integer_of, digits_of, begins, is, is_x, is_word_byte, is_octal_digit}
-use Rattle.lz_lex.proofs.PrefixLemmas.{found, if_some, prefix_all}
+use Rattle.lz_lex.proofs.PrefixLemmas.{found, prefix_all}
+use Rattle.lz_lex.proofs.ClassLemmas.{digit_is_byte}
 
 all-weaker : (p q : ℕ → Bool) (xs : List ℕ) → ((b : ℕ) → p b ≡ true → q b ≡ true) → list_all p xs ≡ true → list_all q xs ≡ true
 all-weaker p q [] weaker h = refl
@@ -21,9 +23,6 @@ all-weaker p q (x ∷ xs) weaker h =
 
 octal_byte : (b : ℕ) → is_octal_digit b ≡ true → is_word_byte b ≡ true
 octal_byte b h = grind (arith, nat_tests)
-
-digit_byte : (b : ℕ) → is_ascii_digit b ≡ true → is_word_byte b ≡ true
-digit_byte b h = grind (arith, nat_tests)
 
 hex_byte : (b : ℕ) → is_ascii_hexdigit b ≡ true → is_word_byte b ≡ true
 hex_byte b h = grind (arith, nat_tests)
@@ -72,6 +71,6 @@ integer_bytes bytes c e =
       | inl hex ↦ hex_front bytes hex.0 (digits_bytes is_ascii_hexdigit 16 false (drop 2 bytes) c hex_byte hex.1)
       | inr rest ↦ elim (if_some (begins (is 48) bytes) _ _ c rest.1) [
         | inl octal ↦ digits_bytes is_octal_digit 8 false bytes c octal_byte octal.1
-        | inr decimal ↦ digits_bytes is_ascii_digit 10 true bytes c digit_byte decimal.1
+        | inr decimal ↦ digits_bytes is_ascii_digit 10 true bytes c digit_is_byte decimal.1
       ]
     ]

@@ -4,15 +4,16 @@ use Rattle.std.specs.Prelude.{◌&&◌, option_map, nat_lt, nat_le, ◌==◌, co
 use Rattle.std.specs.Char.{is_ascii_digit}
 use Rattle.std.specs.List.{list_all, prefix_len, starts_with}
 use Rattle.std.specs.Option.{option_or}
-use Rattle.std.proofs.lemmas.Bool.{cases_Bool, cases_eq, cond-true, cond-false, and_parts, and_from, eqb-true}
+use Rattle.std.proofs.lemmas.Bool.{cases_Bool, cases_eq, cond-true, cond-false, and_parts, and_from, eqb-true, and_right, both_ways}
 use Rattle.std.proofs.lemmas.Bool.Decides.{nat_tests}
+use Rattle.lz_base.proofs.OptionLemmas.{if_some}
 use Rattle.lz_tree.specs.declared.token.Punct.{Punct}
 use Rattle.lz_tree.specs.declared.token.Punct.TheVariants as marks
 use Rattle.lz_tree.specs.Pieces.{Piece, ConstantPiece, Body, white, word, integer, character, text, block_comment, line_comment, include, define, mark, piece_of, comment_of, integer_of, character_of, character_constant, directive_of, directive_named, defined_of, punct_of, begins, is, is_white, is_word_start, is_word_byte, is_newline, is_plain, is_text, is_block_comment, is_line_comment, has_no_newline, ends_comment, ends_text, behind_blanks, body_of, keyword_of, is_blank}
 use Rattle.lz_tree.specs.Tokens.{Cutting, Front, front, front_of, first_piece, may_stand, may_follow, ends_line}
 use Rattle.lz_lex.specs.Scanning.{is_in_line, comment_end, text_end}
 use Rattle.lz_lex.specs.Scanning as scanning
-use Rattle.lz_lex.proofs.PrefixLemmas.{false_is, and_last, option_or-none, option_cases, if_some, none_some, prefix-pass, prefix-length, prefix_all, prefix_over, prefix_inside, prefix_behind}
+use Rattle.lz_lex.proofs.PrefixLemmas.{option_or-none, option_cases, none_some, prefix-pass, prefix-length, prefix_all, prefix_over, prefix_inside, prefix_behind}
 use Rattle.lz_lex.proofs.LongestLemmas.{longest-below, first-top, first-none, first-only, allowed, no_piece, no_follow, follows}
 use Rattle.lz_lex.proofs.ClassLemmas.{word_piece, integer_piece, white_piece, directive_piece, character_piece, text_piece, slash_piece, mark_piece, start_is_byte, digit_is_byte, IsOther}
 use Rattle.lz_lex.proofs.ConstantLemmas.{integer_bytes}
@@ -75,7 +76,7 @@ integer_follow (Some c) rest t h q e =
 not_integer : (bytes : List ℕ) → list_all is_word_byte bytes ≡ false → integer_of bytes ≡ None
 not_integer bytes fail =
     elim (option_cases (integer_of bytes)) [
-      | inl some ↦ absurd (false_is _ (integer_bytes bytes some.0 some.1) fail)
+      | inl some ↦ absurd (both_ways _ fail (integer_bytes bytes some.0 some.1))
       | inr none ↦ none
     ]
 
@@ -95,7 +96,7 @@ integer-first at b rest h =
       | inr over ↦
           let past : k ≤ j = grind (arith, nat_tests) in
           let beyond : k < j = apart k j past (λ e. other (sym e)) in
-          let fail : list_all is_word_byte (b ∷ take j rest) ≡ false = and_last (is_word_byte b) _ (prefix_over is_word_byte rest j beyond (omega arith)) in
+          let fail : list_all is_word_byte (b ∷ take j rest) ≡ false = and_right (is_word_byte b) _ (prefix_over is_word_byte rest j beyond (omega arith)) in
           no_piece at (b ∷ rest) (suc j) (integer_piece b (take j rest) h ∙ ap (option_map integer) (not_integer (b ∷ take j rest) fail))
     ]) in
     let here : front_of at (b ∷ rest) (suc k) ≡ option_map (λ c. front (suc k) (integer c)) (integer_of (take (suc k) (b ∷ rest))) =
@@ -469,5 +470,5 @@ scan-first at b rest =
     (λ h. subst (λ (x : ℕ). first_piece at (x ∷ rest) ≡ allowed at (scanning.directive (x ∷ rest))) (sym (eqb-true b 35 h)) (directive-first at rest))
     (λ hash.
     let other : IsOther b = record { start = start; digit = digit; white = blank; slash = slash; quote = quote; tick = tick; hash = hash } in
-    mark-first at b rest (λ j. mark_piece b (take j rest) other) (λ same. absurd (false_is (eqb b 47) (subst (λ (x : ℕ). eqb x 47 ≡ true) (sym same) refl) slash))
+    mark-first at b rest (λ j. mark_piece b (take j rest) other) (λ same. absurd (both_ways (eqb b 47) slash (subst (λ (x : ℕ). eqb x 47 ≡ true) (sym same) refl)))
     ∙ sym (free_mark (b ∷ rest) at))))))))

@@ -1,32 +1,13 @@
 -- The longest front that passes a test, choices, and searches.
-use Rattle.std.proofs.Common.{◌≡◌, ℕ, zero, suc, ◌+◌, ◌<◌, ◌≤◌, Bool, true, false, not, cond, List, [], ◌∷◌, length, take, drop, Option, Some, None, refl, sym, subst, ◌∙◌, arith, inl, inr}
-use Rattle.std.specs.Prelude.{◌&&◌, ◌⊎◌, find}
+use Rattle.std.proofs.Common.{◌≡◌, ℕ, zero, suc, ◌+◌, ◌<◌, ◌≤◌, Bool, true, false, List, [], ◌∷◌, length, take, drop, Option, Some, None, refl, sym, subst, ◌∙◌, arith, inl, inr}
+use Rattle.std.specs.Prelude.{◌⊎◌, find}
 use Rattle.std.specs.List.{prefix_len, list_all}
 use Rattle.std.specs.Option.{option_or}
 use Rattle.std.proofs.lemmas.Bool.{cases_Bool, cond-true, cond-false, and_parts, and_from}
+use Rattle.lz_base.proofs.OptionLemmas.{if_some}
 use Rattle.lz_tree.specs.Pieces.{begins}
 
--- ---- booleans and options
-
-pub false_is : (b : Bool) → b ≡ true → b ≡ false → ⊥
-false_is true e f = cc
-false_is false e f = cc
-
-pub not_true : (b : Bool) → b ≡ true → not b ≡ false
-not_true true e = refl
-not_true false e = absurd cc
-
-pub not_false : (b : Bool) → b ≡ false → not b ≡ true
-not_false true e = absurd cc
-not_false false e = refl
-
-pub and_no : (a b : Bool) → a ≡ false → (a && b) ≡ false
-and_no true b e = absurd cc
-and_no false b e = refl
-
-pub and_last : (a b : Bool) → b ≡ false → (a && b) ≡ false
-and_last true b e = e
-and_last false b e = refl
+-- ---- options
 
 pub option_or-none : {A : Type 0} (o : Option A) → option_or o None ≡ o
 option_or-none None = refl
@@ -39,11 +20,6 @@ option_cases (Some x) = inl (x, refl)
 pub none_some : {A : Type 0} (x : A) (o : Option A) → o ≡ None → o ≡ Some x → ⊥
 none_some x None e f = cc
 none_some x (Some y) e f = cc
-
--- what a choice of options that is there says
-pub if_some : {A : Type 0} (b : Bool) (x y : Option A) (z : A) → cond b x y ≡ Some z → ((b ≡ true) × (x ≡ Some z)) ⊎ ((b ≡ false) × (y ≡ Some z))
-if_some true x y z e = inl (refl, e)
-if_some false x y z e = inr (refl, e)
 
 -- what is found passes the test, and whatever all pass
 pub found : {A : Type 0} (p q : A → Bool) (xs : List A) (x : A) → find p xs ≡ Some x → list_all q xs ≡ true → (p x ≡ true) × (q x ≡ true)

@@ -137,7 +137,7 @@ module _ {A : Type 0} where
 
 -- ---- expressions
 
-fronts_checks : (line value : ℕ) (kind : BreakKind) → Fronts (checks line value kind)
+pub fronts_checks : (line value : ℕ) (kind : BreakKind) → Fronts (checks line value kind)
 fronts_checks line zero kind = fronts_then fronts_updates (λ v. fronts_halts)
 fronts_checks line (suc value) kind = fronts_updates
 
@@ -166,19 +166,19 @@ fronts_write line (Handle first len) i v = fronts_halts
 fronts_write line (Routine function) i v = fronts_halts
 fronts_write line (Known name) i v = fronts_halts
 
-fronts_needs : (fits : Bool) → Fronts (needs fits)
+pub fronts_needs : (fits : Bool) → Fronts (needs fits)
 fronts_needs true = fronts_value
 fronts_needs false = fronts_halts
 
-fronts_bounds : (line : ℕ) (checked fits : Bool) → Fronts (bounds line checked fits)
+pub fronts_bounds : (line : ℕ) (checked fits : Bool) → Fronts (bounds line checked fits)
 fronts_bounds line true fits = fronts_needs fits
 fronts_bounds line false fits = fronts_checks line (truth fits) kinds.Bounds
 
-fronts_checks_index : (line : ℕ) (meant : Object) (index : ScopedIndex) (checked : Bool) (i : ℕ) → Fronts (checks_index line meant index checked i)
+pub fronts_checks_index : (line : ℕ) (meant : Object) (index : ScopedIndex) (checked : Bool) (i : ℕ) → Fronts (checks_index line meant index checked i)
 fronts_checks_index line meant whole checked i = fronts_value
 fronts_checks_index line meant (element index) checked i = fronts_bounds line checked (nat_lt i (len_of meant))
 
-fronts_divisor : (line : ℕ) (op : Binary) (divisor : ℕ) → Fronts (checks_divisor line op divisor)
+pub fronts_divisor : (line : ℕ) (op : Binary) (divisor : ℕ) → Fronts (checks_divisor line op divisor)
 fronts_divisor line op divisor = fronts_picks (is_division op) (fronts_checks line divisor kinds.DivZero) fronts_value
 
 fronts_decides : {A : Type 0} {line : ℕ} {test : Behaviour Locals ℕ} {next : Bool → Behaviour Locals A} → Fronts test → ((b : Bool) → Fronts (next b)) → Fronts (decides line test next)

@@ -2,6 +2,7 @@
 use Rattle.std.proofs.Common.{◌≡◌, ◌≢◌, ℕ, zero, suc, ◌≤◌, ◌⊎◌, inl, inr, Bool, true, false, ◌&&◌, ◌||◌, eqb, cond, List, [], ◌∷◌, ◌++◌, map, Option, Some, None, refl, sym, ◌∙◌, ap, subst, append_assoc, arith}
 use Rattle.std.proofs.lemmas.Bool.{eqb-true, eqb-false}
 use Rattle.lz_base.specs.declared.word.BreakKind.{BreakKind}
+use Rattle.lz_base.proofs.DescentsLemmas.{Fits, nothing, stay, next, fits_descents}
 use Rattle.lz_model.specs.declared.actions.Action.{Action}
 use Rattle.lz_model.specs.declared.actions.Action.TheVariants.{Loc, Input, Check, Assume, Rd, Wr, Reset, Lock, Unlock, Park, Wake, Signal, Broadcast, Create, Join, HoldOn, HoldOff, End}
 use Rattle.lz_model.specs.declared.actions.Event.{Event}
@@ -10,7 +11,6 @@ use Rattle.lz_model.specs.Store.{State, Acted, went, blocked, broke, is_halted, 
 use Rattle.lz_model.specs.Interleavings.{Process, Course, stuck, broken, course_after, course, part, start_or, start_of, MayDo, MayDoIn, IsRun}
 use Rattle.lz_model.specs.BrokenRuns.{IsBrokenRun, rounds_of_run}
 use Rattle.lz_model.specs.WithoutLoc.{left_out, without_loc, events_without_loc, bare}
-use Rattle.lz_model.proofs.FitsLemmas.{Fits, nothing, stay, next, fits_descents}
 use Rattle.lz_model.proofs.RunFrontsLemmas.{IsOpen}
 
 threads : List Event → List ℕ

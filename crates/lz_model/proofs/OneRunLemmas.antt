@@ -81,7 +81,7 @@ append_seen : (a : Act) (xs ys zs : List Act) (b : Bool) → zs ≡ xs ++ ys →
 append_seen a xs ys zs true e = e
 append_seen a xs ys zs false e = ap (λ (acts : List Act). a ∷ acts) e
 
-without_loc-append : (xs ys : List Act) → without_loc (xs ++ ys) ≡ without_loc xs ++ without_loc ys
+pub without_loc-append : (xs ys : List Act) → without_loc (xs ++ ys) ≡ without_loc xs ++ without_loc ys
 without_loc-append [] ys = refl
 without_loc-append (a ∷ xs) ys = append_seen a (without_loc xs) (without_loc ys) (without_loc (xs ++ ys)) (is_loc a.action) (without_loc-append xs ys)
 

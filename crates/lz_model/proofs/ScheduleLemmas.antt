@@ -1,6 +1,7 @@
 -- The schedule of a run, with Loc and without, and its rounds.
 use Rattle.std.proofs.Common.{◌≡◌, ℕ, ◌+◌, ◌≤◌, Bool, true, false, List, [], ◌∷◌, ◌++◌, map, Some, None, refl, sym, ◌∙◌, ap, arith}
 use Rattle.lz_base.specs.declared.word.BreakKind.{BreakKind}
+use Rattle.lz_base.proofs.DescentsLemmas.{Fits, nothing, stay, next, fits_descents}
 use Rattle.lz_model.specs.declared.actions.Action.{Action}
 use Rattle.lz_model.specs.declared.actions.Action.TheVariants.{Loc, Input, Check, Assume, Rd, Wr, Reset, Lock, Unlock, Park, Wake, Signal, Broadcast, Create, Join, HoldOn, HoldOff, End}
 use Rattle.lz_model.specs.declared.actions.Event.{Event}
@@ -10,7 +11,6 @@ use Rattle.lz_model.specs.Actions.{is_loc, choice_of}
 use Rattle.lz_model.specs.Interleavings.{Process}
 use Rattle.lz_model.specs.BrokenRuns.{IsBrokenRun, rounds_of_run, steps_of, schedule_of, Follows}
 use Rattle.lz_model.specs.WithoutLoc.{left_out, events_without_loc}
-use Rattle.lz_model.proofs.FitsLemmas.{Fits, nothing, stay, next, fits_descents}
 use Rattle.lz_model.proofs.RunFrontsLemmas.{IsOpen}
 use Rattle.lz_model.proofs.LocLemmas.{bare_breaks, full_breaks}
 

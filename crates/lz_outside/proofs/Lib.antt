@@ -1,5 +1,3 @@
-pub mod Changed
-pub mod Gained
-pub mod InSlots
-pub mod Listings
-pub mod Pieces
+pub mod FilesLemmas
+pub mod WrittenLemmas
+pub mod ReadingLemmas

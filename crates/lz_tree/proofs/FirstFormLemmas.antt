@@ -1,13 +1,14 @@
 -- The program that a tree of the first form means names its own cells alone, and its words are words.
-use Rattle.std.proofs.Common.{◌≡◌, ℕ, zero, suc, ◌<◌, ◌+◌, Bool, true, false, ◌&&◌, List, [], ◌∷◌, ◌++◌, length, Option, Some, None, option_map, refl, sym, ap, subst, ◌∙◌, arith}
-use Rattle.std.specs.Prelude.{if◌then◌else◌}
+use Rattle.std.proofs.Common.{◌≡◌, ℕ, zero, suc, ◌<◌, ◌+◌, true, List, [], ◌∷◌, ◌++◌, length, Option, Some, None, option_map, refl, sym, ap, subst, ◌∙◌, arith}
 use Rattle.std.specs.List.{AllByRecursion}
-use Rattle.std.proofs.lemmas.Bool.{leb-true}
+use Rattle.std.proofs.lemmas.Bool.{leb-true, and_parts}
 use Rattle.std.proofs.lemmas.List.{length-append}
 use Rattle.std.proofs.lemmas.List.Quantifiers.{position-Some}
 use Rattle.lz_base.specs.declared.operator.Binary.{Binary}
 use Rattle.lz_base.specs.declared.operator.Binary.TheVariants as ops
 use Rattle.lz_base.specs.declared.word.IntType.TheVariants as kinds
+use Rattle.lz_base.specs.Words.{value_bound, greatest_int}
+use Rattle.lz_base.proofs.OptionLemmas.{then_some}
 use Rattle.lz_tree.specs.declared.token.Form.{Form}
 use Rattle.lz_tree.specs.declared.first_form.scoped.KnownName.TheVariants.{Assert}
 use Rattle.lz_tree.specs.declared.first_form.scoped.Object.TheVariants.{Cell}
@@ -31,22 +32,13 @@ map_some : {A B : Type 0} (o : Option A) (f : A → B) (y : B) → option_map f 
 map_some (Some x) f y e = (x, refl, inside (f x) y e)
 map_some None f y e = none_is y e
 
--- what is there by a test
-if_some : {A : Type 0} (b : Bool) (o : Option A) (y : A) → (if b then o else None) ≡ Some y → (b ≡ true) × (o ≡ Some y)
-if_some true o y e = (refl, e)
-if_some false o y e = none_is y e
-
-both_true : (a b : Bool) → (a && b) ≡ true → (a ≡ true) × (b ≡ true)
-both_true true b e = (refl, e)
-both_true false b e = absurd cc
-
 -- ---- expressions
 
 -- a constant is a word
-plain_word : (value : ℕ) (form : Form) → is_plain value form ≡ true → value < 4294967296
+plain_word : (value : ℕ) (form : Form) → is_plain value form ≡ true → value < value_bound
 unfolding is_plain
 plain_word value form e =
-    let small = leb-true value 2147483647 (both_true _ _ (both_true _ _ (both_true _ _ e).0).0).0 in omega arith
+    let small = leb-true value greatest_int (and_parts _ _ (and_parts _ _ (and_parts _ _ e).0).0).0 in omega arith
 
 cell_within : (d : Declared) (name i : ℕ) → cell_of d name ≡ Some i → i < length d.names
 unfolding cell_of
@@ -55,7 +47,7 @@ cell_within d name i e = (position-Some _ d.names i 0 e).0
 operand_within : (d : Declared) (e : tree.Expression) (x : Expression) → operand_of d e ≡ Some x → IsExpressionOf (length d.names) x
 unfolding operand_of
 operand_within d (tree.constant line value form) x is =
-    let p = if_some (is_plain value form) (Some (constant line value)) x is in
+    let p = then_some (is_plain value form) (Some (constant line value)) x is in
     subst (IsExpressionOf (length d.names)) (inside _ x p.1) (plain_word value form p.0)
 operand_within d (tree.object line name tree.whole) x is =
     let p = map_some (cell_of d name) (λ cell. read line (Cell cell)) x is in
@@ -96,7 +88,7 @@ assertion_within : (names : List (List ℕ)) (d : Declared) (line name : ℕ) (a
     → assertion_of names d line name args ≡ Some x → IsExpressionOf (length d.names) x
 unfolding assertion_of
 assertion_within names d line name (tree.and argument tree.none) x is =
-    let a = if_some _ (option_map (call line Assert) (equation_of d argument)) x is in
+    let a = then_some _ (option_map (call line Assert) (equation_of d argument)) x is in
     let b = map_some (equation_of d argument) (call line Assert) x a.1 in
     subst (IsExpressionOf (length d.names)) b.2 (equation_within d argument b.0 b.1)
 assertion_within names d line name tree.none x is = none_is x is
@@ -137,18 +129,18 @@ body_within names d _ xs is = none_is xs is
 -- as many names as values, each of which is a word
 record IsTable (d : Declared) : Type 0 where
   pub same : length d.names ≡ length d.values
-  pub words : AllByRecursion (λ value. value < 4294967296) d.values
+  pub words : AllByRecursion (λ value. value < value_bound) d.values
 
-all_push : (xs : List ℕ) (x : ℕ) → AllByRecursion (λ value. value < 4294967296) xs → x < 4294967296 → AllByRecursion (λ value. value < 4294967296) (xs ++ x ∷ [])
+all_push : (xs : List ℕ) (x : ℕ) → AllByRecursion (λ value. value < value_bound) xs → x < value_bound → AllByRecursion (λ value. value < value_bound) (xs ++ x ∷ [])
 all_push [] x all is = (is, tt)
 all_push (first ∷ xs) x all is = (all.0, all_push xs x all.1 is)
 
-value_word : (first : tree.Initializer) (value : ℕ) → first_value first ≡ Some value → value < 4294967296
+value_word : (first : tree.Initializer) (value : ℕ) → first_value first ≡ Some value → value < value_bound
 unfolding first_value
-value_word tree.nothing value is = subst (λ (n : ℕ). n < 4294967296) (inside 0 value is) (omega arith)
+value_word tree.nothing value is = subst (λ (n : ℕ). n < value_bound) (inside 0 value is) (omega arith)
 value_word (tree.single (tree.constant line n form)) value is =
-    let p = if_some (is_plain n form) (Some n) value is in
-    subst (λ (n : ℕ). n < 4294967296) (inside n value p.1) (plain_word n form p.0)
+    let p = then_some (is_plain n form) (Some n) value is in
+    subst (λ (n : ℕ). n < value_bound) (inside n value p.1) (plain_word n form p.0)
 value_word _ value is = none_is value is
 
 object_table : (names : List (List ℕ)) (d : Declared) (name : ℕ) (length_ : Option tree.Expression) (first : tree.Initializer) (more : Declared)
@@ -156,7 +148,7 @@ object_table : (names : List (List ℕ)) (d : Declared) (name : ℕ) (length_ : 
 unfolding with_object
 object_table names d name None first more table is =
     let grown : ℕ → Declared = λ value. record { names = d.names ++ name ∷ []; values = d.values ++ value ∷ [] } in
-    let a = if_some _ (option_map grown (first_value first)) more is in
+    let a = then_some _ (option_map grown (first_value first)) more is in
     let b = map_some (first_value first) grown more a.1 in
     let same : length (d.names ++ name ∷ []) ≡ length (d.values ++ b.0 ∷ []) =
     length-append d.names (name ∷ []) ∙ ap (λ (n : ℕ). n + 1) table.same ∙ sym (length-append d.values (b.0 ∷ [])) in
@@ -172,7 +164,7 @@ external_table : (names : List (List ℕ)) (d : Declared) (e : tree.ExternalDecl
     → IsTable d → with_external names d e ≡ Some more → IsTable more
 unfolding with_external
 external_table names d (tree.objects hidden of) more table is =
-    one_table names d of.declarators more table (if_some _ (with_one names d of.declarators) more is).1
+    one_table names d of.declarators more table (then_some _ (with_one names d of.declarators) more is).1
 external_table names d (tree.prototype line lead gives name params void_word) more table is = none_is more is
 external_table names d (tree.function line hidden gives name params void_word body) more table is = none_is more is
 
@@ -180,7 +172,7 @@ main_within : (names : List (List ℕ)) (d : Declared) (e : tree.ExternalDeclara
     → AllByRecursion (IsStatementOf (length d.names)) xs
 unfolding main_of
 main_within names d (tree.function line hidden gives name params void_word body) xs is =
-    body_within names d body xs (if_some _ (body_of names d body) xs is).1
+    body_within names d body xs (then_some _ (body_of names d body) xs is).1
 main_within names d (tree.objects hidden of) xs is = none_is xs is
 main_within names d (tree.prototype line lead gives name params void_word) xs is = none_is xs is
 

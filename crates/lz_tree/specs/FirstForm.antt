@@ -6,6 +6,7 @@ use Rattle.std.specs.Str.{bytes_eq}
 use Rattle.lz_base.specs.declared.operator.Binary.{Binary}
 use Rattle.lz_base.specs.declared.operator.Binary.TheVariants.{Add, Eq}
 use Rattle.lz_base.specs.declared.word.IntType.TheVariants as kinds
+use Rattle.lz_base.specs.Words.{greatest_int}
 use Rattle.lz_tree.specs.declared.token.Form.{Form}
 use Rattle.lz_tree.specs.declared.expression.TypeName.{TypeName}
 use Rattle.lz_tree.specs.declared.expression.TypeName.TheVariants as types
@@ -75,7 +76,7 @@ cell_of declared name = position (λ other. name == other) declared.names
 -- is octal (C99 6.4.4.1)
 unfoldable pub is_plain : ℕ → Form → Bool
 is_plain value form =
-    nat_le value 2147483647 && (if value == 0 then not form.decimal else form.decimal) && not form.unsigned && form.longs == 0
+    nat_le value greatest_int && (if value == 0 then not form.decimal else form.decimal) && not form.unsigned && form.longs == 0
 
 -- an operand: a declared name, or a constant
 unfoldable pub operand_of : Declared → tree.Expression → Option Expression

@@ -4,6 +4,7 @@ use Rattle.std.specs.Prelude.{ℕ, ◌<◌, List, length, map}
 use Rattle.std.specs.List.{AllByRecursion}
 use Rattle.lz_base.specs.declared.operator.Binary.{Binary}
 use Rattle.lz_base.specs.declared.word.IntType.{IntType}
+use Rattle.lz_base.specs.Words.{value_bound}
 use Rattle.lz_tree.specs.declared.first_form.scoped.KnownName.{KnownName}
 use Rattle.lz_tree.specs.declared.first_form.scoped.Object.{Object}
 use Rattle.lz_tree.specs.declared.first_form.scoped.Object.TheVariants.{Cell}
@@ -50,7 +51,7 @@ IsObjectOf cells (Cell first) = first < cells
 
 -- each cell that is named is one of so many, and each constant is a word
 abbrev pub IsExpressionOf : ℕ → Expression → Type 0
-IsExpressionOf cells (constant line value) = value < 4294967296
+IsExpressionOf cells (constant line value) = value < value_bound
 IsExpressionOf cells (read line object) = IsObjectOf cells object
 IsExpressionOf cells (binary line op kind left right) = IsExpressionOf cells left × IsExpressionOf cells right
 IsExpressionOf cells (assign line object value) = IsObjectOf cells object × IsExpressionOf cells value
@@ -61,5 +62,5 @@ IsStatementOf cells (eval value) = IsExpressionOf cells value
 
 -- the program names its own cells alone, and its words are words
 pub record IsWellFormed (p : Program) : Type 0 where
-  pub words : AllByRecursion (λ value. value < 4294967296) p.cells
+  pub words : AllByRecursion (λ value. value < value_bound) p.cells
   pub main : AllByRecursion (IsStatementOf (length p.cells)) p.main

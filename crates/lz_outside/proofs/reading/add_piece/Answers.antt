@@ -1,6 +1,6 @@
 use Rattle.std.proofs.Common.{arith, ap, length}
 use Rattle.std.proofs.lemmas.Bool.Decides.{nat_tests}
-use Rattle.lz_outside.proofs.Pieces.{BeginsWith-more, Holds-at_end}
+use Rattle.lz_outside.proofs.ReadingLemmas.{BeginsWith-more, Holds-at_end}
 use Rattle.lz_outside.proofs.reading.add_piece.Goals as goal
 
 pub returns-clause-begins : goal.returns-clause-begins

@@ -1,5 +1,5 @@
 use Rattle.std.proofs.Common.{◌-◌, ◌∙◌, arith, drop, length, length-drop, length-take}
-use Rattle.lz_outside.proofs.Gained.{Gains-put}
+use Rattle.lz_outside.proofs.WrittenLemmas.{Gains-put}
 use Rattle.lz_outside.proofs.writing.write_all.Goals as goal
 
 -- what was put is the front of the rest

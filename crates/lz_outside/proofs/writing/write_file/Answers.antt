@@ -1,5 +1,5 @@
 use Rattle.std.proofs.Common.{◌-◌, ◌∙◌, arith, drop, length, length-drop, length-take}
-use Rattle.lz_outside.proofs.Changed.{Changes-piece}
+use Rattle.lz_outside.proofs.FilesLemmas.{Changes-piece}
 use Rattle.lz_outside.proofs.writing.write_file.Goals as goal
 
 -- what was added is the front of the rest
