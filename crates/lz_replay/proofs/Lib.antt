@@ -1,3 +1,4 @@
 pub mod LinesLemmas
 pub mod ReadingLemmas
 pub mod LawsLemmas
+pub mod FollowsLemmas
