@@ -2,3 +2,4 @@ pub mod LinesLemmas
 pub mod ReadingLemmas
 pub mod LawsLemmas
 pub mod FollowsLemmas
+pub mod StandsLemmas
