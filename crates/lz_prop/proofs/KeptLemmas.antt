@@ -13,6 +13,7 @@ use Rattle.lz_prop.specs.declared.inner.Inner.{Inner}
 use Rattle.lz_prop.specs.declared.store.Store.{Store}
 use Rattle.lz_prop.specs.declared.watch.Watch.{Watch}
 use Rattle.lz_prop.specs.Trail.{Entry, TrailState, IsTrail, RestsOn, Extends, literals, IsFalseNamed, HoldsClause, WasOpen, at_decision, decided, propagated, gone_back, with_clause}
+use Rattle.lz_prop.specs.Watchers.{guards_of}
 use Rattle.lz_prop.specs.Guarded.{Guards, AreGuarded, WereGuarded, AreFronts}
 use Rattle.lz_prop.specs.Parts.{entry_at, number_kept, IsTable, AreStarts}
 use Rattle.lz_prop.specs.Stored.{IsStore, clauses_of}
@@ -109,15 +110,15 @@ table_put t u lit level reason kept free is =
 fronts_put : (t u : Inner) (lit : Lit) (level reason : ℕ) → IsPut t u lit level reason → (n : ℕ) → n ≤ length t.table.order.items → take n u.table.order.items ≡ take n t.table.order.items
 fronts_put t u lit level reason is n le = ap (take n) is.order ∙ take-append-le n t.table.order.items (lit ∷ []) le
 
-guarded_put : (t u : Inner) (lit : Lit) (level reason : ℕ) → IsKept t → IsPut t u lit level reason → AreGuarded (clauses_of u.store) u.watch.guards.items u.table.order.items (take u.head u.table.order.items)
+guarded_put : (t u : Inner) (lit : Lit) (level reason : ℕ) → IsKept t → IsPut t u lit level reason → AreGuarded (clauses_of u.store) (guards_of u.watch) u.table.order.items (take u.head u.table.order.items)
 guarded_put t u lit level reason kept is =
-    rw (is.store, is.watch, is.order, is.head) (are_more (clauses_of t.store) t.watch.guards.items t.table.order.items t.head lit kept.head_within kept.guarded)
+    rw (is.store, is.watch, is.order, is.head) (are_more (clauses_of t.store) (guards_of t.watch) t.table.order.items t.head lit kept.head_within kept.guarded)
 
 -- the parts after a literal was put, given the trail and what is kept of its levels
 pub record AreLevels (u : Inner) : Type 0 where
   pub starts : AreStarts (state_of u).set u.starts.items
   pub fronts : AreFronts u.starts.items u.fronts.items
-  pub were : WereGuarded (clauses_of u.store) u.watch.guards.items u.table.order.items u.starts.items u.fronts.items
+  pub were : WereGuarded (clauses_of u.store) (guards_of u.watch) u.table.order.items u.starts.items u.fronts.items
   pub room : u.variables ≤ vec_capacity u.fronts
 
 put_kept : (t u : Inner) (lit : Lit) (level reason : ℕ) → IsKept t → IsFree t lit → IsPut t u lit level reason → IsTrail (state_of u) → AreLevels u → IsKept u
@@ -143,8 +144,7 @@ put_kept t u lit level reason kept free is trail levels =
       order_room = omega arith;
       starts_room = omega arith;
       fronts_room = levels.room;
-      guards_room = rw (is.store, is.watch) kept.guards_room;
-      next_room = rw (is.store, is.watch) kept.next_room;
+      watchers_room = rw (is.store, is.watch) kept.watchers_room;
     }
 
 -- ---- a decision
@@ -169,7 +169,7 @@ decided_kept t u lit kept free quiet is opened =
     (subst (λ (xs : List Lit). IsQuiet xs (clauses_of t.store)) (sym (order_is t)) quiet) in
     let more : AreStarts ((state_of t).set ++ e ∷ []) (t.starts.items ++ length (state_of t).set ∷ []) = starts_more (state_of t).set t.starts.items e kept.starts kept.trail.bounded refl in
     let within : (k : ℕ) → k < length t.starts.items → get_or t.starts.items k 0 ≤ length t.table.order.items = λ k lt. start_within t k kept lt in
-    let were = were_decided (clauses_of t.store) t.watch.guards.items t.table.order.items u.table.order.items t.starts.items t.fronts.items t.head kept.fronts within
+    let were = were_decided (clauses_of t.store) (guards_of t.watch) t.table.order.items u.table.order.items t.starts.items t.fronts.items t.head kept.fronts within
     (fronts_put t u lit (suc (length t.starts.items)) 0 is) kept.head_within kept.guarded kept.were in
     let room = kept.fronts_room in let same_room = opened.fronts_room in let same = is.variables in
     put_kept t u lit (suc (length t.starts.items)) 0 kept free is
@@ -210,7 +210,7 @@ implied_kept t u lit number kept free rests is starts fronts =
       starts = rw (set_put t u lit (length t.starts.items) (suc number) kept free is, starts) same;
       fronts = rw (starts, fronts) kept.fronts;
       were = rw (is.store, is.watch, starts, fronts)
-          (were_same (clauses_of t.store) t.watch.guards.items t.table.order.items u.table.order.items t.starts.items t.fronts.items kept.fronts (λ k lt. start_within t k kept lt)
+          (were_same (clauses_of t.store) (guards_of t.watch) t.table.order.items u.table.order.items t.starts.items t.fronts.items kept.fronts (λ k lt. start_within t k kept lt)
           (fronts_put t u lit (length t.starts.items) (suc number) is) kept.were);
       room = rw (is.variables, fronts) kept.fronts_room;
     })
@@ -419,15 +419,14 @@ back_kept t u level kept is =
       guards_long = rw (is.watch, is.seen) kept.guards_long;
       guarded = rw (is.store, is.watch, is.order, is.head, take-take (get_or t.fronts.items level 0) start t.table.order.items front) (kept.were level is.below);
       were = rw (is.store, is.watch, is.order, is.starts, is.fronts)
-          (were_back (clauses_of t.store) t.watch.guards.items t.table.order.items t.starts.items t.fronts.items level start kept.fronts (omega arith) (starts_rise t level kept is.below) kept.were);
+          (were_back (clauses_of t.store) (guards_of t.watch) t.table.order.items t.starts.items t.fronts.items level start kept.fronts (omega arith) (starts_rise t level kept is.below) kept.were);
       head_within = omega arith;
       seen_within = rw (is.store, is.seen) kept.seen_within;
       few = omega arith;
       order_room = omega arith;
       starts_room = omega arith;
       fronts_room = omega arith;
-      guards_room = rw (is.store, is.watch) kept.guards_room;
-      next_room = rw (is.store, is.watch) kept.next_room;
+      watchers_room = rw (is.store, is.watch) kept.watchers_room;
     }
 
 -- at the present level nothing goes
@@ -454,8 +453,7 @@ state_added t store clause more = made refl more refl refl refl
 
 -- there is room for the watchers of one clause more
 pub record IsWide (t : Inner) : Type 0 where
-  pub guards : 2 * length (clauses_of t.store) + 2 ≤ vec_capacity t.watch.guards
-  pub next : 2 * length (clauses_of t.store) + 2 ≤ vec_capacity t.watch.next
+  pub room : 2 * length (clauses_of t.store) + 2 ≤ vec_capacity t.watch.watchers
 
 pub added_kept : (t : Inner) (store : Store) (clause : List Lit) → IsKept t → IsWide t → IsStore store → clauses_of store ≡ clauses_of t.store ++ clause ∷ []
     → All (λ l. variable_of l < t.variables) clause → 0 < length clause → WasOpen (state_of t) (length t.starts.items) clause → IsKept (record t { store = store })
@@ -463,7 +461,7 @@ added_kept t store clause kept wide is more within some open_ =
     let long = ap length more ∙ length-append (clauses_of t.store) (clause ∷ []) in
     let guards_long = kept.guards_long in
     let below = kept.seen_within in
-    let a = wide.guards in let b = wide.next in
+    let a = wide.room in
     let not_empty : clause ≢ [] = λ none. let e = ap length none in omega arith in
     record {
       trail = subst IsTrail (sym (state_added t store clause more)) (added_is_trail (state_of t) clause kept.trail within not_empty open_);
@@ -474,16 +472,15 @@ added_kept t store clause kept wide is more within some open_ =
       listed = kept.listed;
       firsts_long = kept.firsts_long;
       guards_long = kept.guards_long;
-      guarded = rw more (are_kept (clauses_of t.store) t.watch.guards.items t.table.order.items (take t.head t.table.order.items) clause (omega arith) kept.guarded);
-      were = λ k lt. rw more (are_kept (clauses_of t.store) t.watch.guards.items (take (get_or t.starts.items k 0) t.table.order.items) (take (get_or t.fronts.items k 0) t.table.order.items) clause (omega arith) (kept.were k lt));
+      guarded = rw more (are_kept (clauses_of t.store) (guards_of t.watch) t.table.order.items (take t.head t.table.order.items) clause (omega arith) kept.guarded);
+      were = λ k lt. rw more (are_kept (clauses_of t.store) (guards_of t.watch) (take (get_or t.starts.items k 0) t.table.order.items) (take (get_or t.fronts.items k 0) t.table.order.items) clause (omega arith) (kept.were k lt));
       head_within = kept.head_within;
       seen_within = omega arith;
       few = kept.few;
       order_room = kept.order_room;
       starts_room = kept.starts_room;
       fronts_room = kept.fronts_room;
-      guards_room = omega arith;
-      next_room = omega arith;
+      watchers_room = omega arith;
     }
 
 -- where memory was wanting, the clauses are as they were
@@ -507,40 +504,36 @@ same_kept t store kept is same =
       order_room = kept.order_room;
       starts_room = kept.starts_room;
       fronts_room = kept.fronts_room;
-      guards_room = rw same kept.guards_room;
-      next_room = rw same kept.next_room;
+      watchers_room = rw same kept.watchers_room;
     }
 
 -- watchers with the same lists and at least as much room
 pub record IsRoomier (v w : Watch) : Type 0 where
-  pub guards : w.guards.items ≡ v.guards.items
-  pub next : w.next.items ≡ v.next.items
+  pub watchers : w.watchers.items ≡ v.watchers.items
   pub firsts : w.firsts.items ≡ v.firsts.items
-  pub guards_room : vec_capacity v.guards ≤ vec_capacity w.guards
-  pub next_room : vec_capacity v.next ≤ vec_capacity w.next
+  pub room : vec_capacity v.watchers ≤ vec_capacity w.watchers
 
 pub roomier_kept : (t : Inner) (watch : Watch) → IsKept t → IsRoomier t.watch watch → IsKept (record t { watch = watch })
 roomier_kept t watch kept is =
-    let a = is.guards_room in let b = is.next_room in let c = kept.guards_room in let d = kept.next_room in
+    let a = is.room in let b = kept.watchers_room in
     record {
       trail = kept.trail;
       store = kept.store;
       table = kept.table;
       starts = kept.starts;
       fronts = kept.fronts;
-      listed = rw (is.guards, is.next, is.firsts) kept.listed;
+      listed = rw (is.watchers, is.firsts) kept.listed;
       firsts_long = rw is.firsts kept.firsts_long;
-      guards_long = rw is.guards kept.guards_long;
-      guarded = rw is.guards kept.guarded;
-      were = λ k lt. rw is.guards (kept.were k lt);
+      guards_long = rw is.watchers kept.guards_long;
+      guarded = rw is.watchers kept.guarded;
+      were = λ k lt. rw is.watchers (kept.were k lt);
       head_within = kept.head_within;
       seen_within = kept.seen_within;
       few = kept.few;
       order_room = kept.order_room;
       starts_room = kept.starts_room;
       fronts_room = kept.fronts_room;
-      guards_room = omega arith;
-      next_room = omega arith;
+      watchers_room = omega arith;
     }
 
 -- ---- what is told

@@ -7,6 +7,7 @@ pub mod StoreLemmas
 pub mod StoredLemmas
 pub mod OpenLemmas
 pub mod WatchLemmas
+pub mod WatchersLemmas
 pub mod TableLemmas
 pub mod TabledLemmas
 pub mod GuardLemmas

@@ -12,6 +12,7 @@ use Rattle.lz_prop.specs.declared.inner.Inner.{Inner}
 use Rattle.lz_prop.specs.declared.watch.Watch.{Watch}
 use Rattle.lz_prop.specs.Trail.{Entry, RestsOn, gone_back}
 use Rattle.lz_prop.specs.Watch.{AreListed}
+use Rattle.lz_prop.specs.Watchers.{guards_of, next_of}
 use Rattle.lz_prop.specs.Guarded.{IsSatisfied, Guards, IsGuarded, WasGuarded}
 use Rattle.lz_prop.specs.Parts.{entry_at}
 use Rattle.lz_prop.specs.Scan.{IsMarkedTrue, IsMarkedFalse, AreOthersFalse, IsLeft, IsOther, IsLast}
@@ -22,6 +23,7 @@ use Rattle.lz_prop.proofs.LitLemmas.{variable_of-negated, Contains-map, Contains
 use Rattle.lz_prop.proofs.OpenLemmas.{not_both}
 use Rattle.lz_prop.proofs.StoreLemmas.{length-cut}
 use Rattle.lz_prop.proofs.ScanLemmas.{marked_false, unmarked, all_marked, others_marked, marked_free}
+use Rattle.lz_prop.proofs.WatchersLemmas.{guards_count}
 use Rattle.lz_prop.proofs.GuardLemmas.{guards_moved, guards_satisfied, open_satisfied, last_guards, are_watched}
 use Rattle.lz_prop.proofs.KeptLemmas.{IsFree, order_is, in_variables, numbered, kept_consistent, front_at, at_start}
 
@@ -173,11 +175,10 @@ others_further t u clause lit kept further others k d lt =
 
 -- what the code did
 pub record IsPushed (v w : Watch) (one other : Lit) : Type 0 where
-  pub listed : AreListed w.guards.items w.next.items w.firsts.items
-  pub guards : w.guards.items ≡ (v.guards.items ++ one ∷ []) ++ other ∷ []
+  pub listed : AreListed (guards_of w) (next_of w) w.firsts.items
+  pub guards : guards_of w ≡ (guards_of v ++ one ∷ []) ++ other ∷ []
   pub firsts : length w.firsts.items ≡ length v.firsts.items
-  pub guards_room : vec_capacity w.guards ≡ vec_capacity v.guards
-  pub next_room : vec_capacity w.next ≡ vec_capacity v.next
+  pub room : vec_capacity w.watchers ≡ vec_capacity v.watchers
 
 pub guard_kept : (t : Inner) (watch : Watch) (one other : Lit) → IsKept t → t.seen < length (clauses_of t.store) → IsPushed t.watch watch one other
     → ((d : List Lit) → IsGuarded t.table.order.items (take t.head t.table.order.items) (get_or (clauses_of t.store) t.seen d) one other)
@@ -185,10 +186,10 @@ pub guard_kept : (t : Inner) (watch : Watch) (one other : Lit) → IsKept t → 
     → IsKept (record t { watch = watch; seen = t.seen + 1 })
 guard_kept t watch one other kept within is now were =
     let long = kept.guards_long in
-    let long1 = length-append t.watch.guards.items (one ∷ []) in
-    let long2 = length-append (t.watch.guards.items ++ one ∷ []) (other ∷ []) in
+    let long1 = length-append (guards_of t.watch) (one ∷ []) in
+    let long2 = length-append (guards_of t.watch ++ one ∷ []) (other ∷ []) in
     let same = ap length is.guards in
-    let a = is.guards_room in let b = is.next_room in let c = kept.guards_room in let d = kept.next_room in
+    let a = is.room in let b = kept.watchers_room in
     record {
       trail = kept.trail;
       store = kept.store;
@@ -198,17 +199,16 @@ guard_kept t watch one other kept within is now were =
       listed = is.listed;
       firsts_long = is.firsts ∙ kept.firsts_long;
       guards_long = omega arith;
-      guarded = rw is.guards (are_watched (clauses_of t.store) t.watch.guards.items t.table.order.items (take t.head t.table.order.items) t.seen one other long now kept.guarded);
+      guarded = rw is.guards (are_watched (clauses_of t.store) (guards_of t.watch) t.table.order.items (take t.head t.table.order.items) t.seen one other long now kept.guarded);
       were = λ k lt. rw is.guards
-          (are_watched (clauses_of t.store) t.watch.guards.items (take (get_or t.starts.items k 0) t.table.order.items) (take (get_or t.fronts.items k 0) t.table.order.items) t.seen one other long (λ d. were d k lt) (kept.were k lt));
+          (are_watched (clauses_of t.store) (guards_of t.watch) (take (get_or t.starts.items k 0) t.table.order.items) (take (get_or t.fronts.items k 0) t.table.order.items) t.seen one other long (λ d. were d k lt) (kept.were k lt));
       head_within = kept.head_within;
       seen_within = omega arith;
       few = kept.few;
       order_room = kept.order_room;
       starts_room = kept.starts_room;
       fronts_room = kept.fronts_room;
-      guards_room = omega arith;
-      next_room = omega arith;
+      watchers_room = omega arith;
     }
 
 -- a literal of the clause that is looked at has a list
@@ -217,15 +217,14 @@ guard_number t lit kept within has = (numbered t lit kept (in_variables t t.seen
 
 -- there is room for two watchers more, and their numbers fit
 pub record HasPlaces (t : Inner) : Type 0 where
-  pub few : length t.watch.guards.items + 2 < 4294967296
-  pub guards : length t.watch.guards.items + 2 ≤ vec_capacity t.watch.guards
-  pub next : length t.watch.next.items + 2 ≤ vec_capacity t.watch.next
+  pub few : length t.watch.watchers.items + 2 < 4294967296
+  pub room : length t.watch.watchers.items + 2 ≤ vec_capacity t.watch.watchers
 
 pub places : (t : Inner) → IsKept t → t.seen < length (clauses_of t.store) → HasPlaces t
 places t kept within =
     let long = kept.guards_long in
-    let links = kept.listed.next_long in
-    let a = kept.guards_room in let b = kept.next_room in
+    let a = kept.watchers_room in
+    let count = guards_count t.watch in
     let few = kept.store.few in
     let clauses = length-cut t.store.literals.items t.store.bounds.items in
-    record { few = omega arith; guards = omega arith; next = omega arith }
+    record { few = omega arith; room = omega arith }

@@ -8,8 +8,10 @@ use Rattle.lz_cnf.specs.Models.{variable_of, negated}
 use Rattle.lz_cnf.specs.Partial.{IsFalseLit}
 use Rattle.lz_prop.specs.declared.inner.Inner.{Inner}
 use Rattle.lz_prop.specs.declared.watch.Watch.{Watch}
+use Rattle.lz_prop.specs.declared.watch.Watcher.{Watcher}
 use Rattle.lz_prop.specs.Trail.{Entry}
 use Rattle.lz_prop.specs.Watch.{twin, IsChain, IsAlong, IsShifted}
+use Rattle.lz_prop.specs.Watchers.{guards_of, next_of}
 use Rattle.lz_prop.specs.Guarded.{Guards, AreGuarded}
 use Rattle.lz_prop.specs.Parts.{entry_at}
 use Rattle.lz_prop.specs.Scan.{IsOther}
@@ -20,13 +22,14 @@ use Rattle.lz_prop.specs.Walk.{IsWalk, IsTurn, IsWalking}
 use Rattle.lz_prop.proofs.LitLemmas.{negated-negated}
 use Rattle.lz_prop.proofs.ScanLemmas.{same_lit}
 use Rattle.lz_prop.proofs.WatchLemmas.{last_within, firsts_long, in_list, chain_unique, chain_some, chain_none, chain_short, list_fits, along_begins, along_stays, along_shifted, IsLeftAlong}
+use Rattle.lz_prop.proofs.WatchersLemmas.{guards_count, guard_read}
 use Rattle.lz_prop.proofs.GuardLemmas.{twin_within, twin_half, guards_moved, guards_satisfied, are_next, are_moved, guarded_quiet}
 use Rattle.lz_prop.proofs.KeptLemmas.{set_long, numbered, in_variables, kept_consistent, further_same, further_join}
 use Rattle.lz_prop.proofs.LookLemmas.{not_false}
 
 -- ---- marks of the queue
 
-pub head_kept : (t : Inner) → IsKept t → t.head < length t.table.order.items → AreGuarded (clauses_of t.store) t.watch.guards.items t.table.order.items (take (suc t.head) t.table.order.items) → IsKept (record t { head = t.head + 1 })
+pub head_kept : (t : Inner) → IsKept t → t.head < length t.table.order.items → AreGuarded (clauses_of t.store) (guards_of t.watch) t.table.order.items (take (suc t.head) t.table.order.items) → IsKept (record t { head = t.head + 1 })
 head_kept t kept waiting are = record {
   trail = kept.trail;
   store = kept.store;
@@ -36,7 +39,7 @@ head_kept t kept waiting are = record {
   listed = kept.listed;
   firsts_long = kept.firsts_long;
   guards_long = kept.guards_long;
-  guarded = subst (λ (n : ℕ). AreGuarded (clauses_of t.store) t.watch.guards.items t.table.order.items (take n t.table.order.items)) (let e : suc t.head ≡ t.head + 1 = omega arith in e) are;
+  guarded = subst (λ (n : ℕ). AreGuarded (clauses_of t.store) (guards_of t.watch) t.table.order.items (take n t.table.order.items)) (let e : suc t.head ≡ t.head + 1 = omega arith in e) are;
   were = kept.were;
   head_within = (let lt = waiting in omega arith);
   seen_within = kept.seen_within;
@@ -44,8 +47,7 @@ head_kept t kept waiting are = record {
   order_room = kept.order_room;
   starts_room = kept.starts_room;
   fronts_room = kept.fronts_room;
-  guards_room = kept.guards_room;
-  next_room = kept.next_room;
+  watchers_room = kept.watchers_room;
 }
 
 pub head_further : (t : Inner) → IsFurther t (record t { head = t.head + 1 })
@@ -77,19 +79,19 @@ walk_false t lit before at walk =
 pub record IsAt (t : Inner) (lit : Lit) (before at : ℕ) : Type 0 where
   pub past : List ℕ
   pub ws : List ℕ
-  pub along : IsAlong t.watch.guards.items t.watch.next.items (get_or t.watch.firsts.items lit.0 0) lit before at past ((at - 1) ∷ ws)
+  pub along : IsAlong (guards_of t.watch) (next_of t.watch) (get_or t.watch.firsts.items lit.0 0) lit before at past ((at - 1) ∷ ws)
   pub done : (w : ℕ) (c : List Lit) → Contains past w → Guards t.table.order.items (take (suc t.head) t.table.order.items) (get_or (clauses_of t.store) (w / 2) c) lit
-  pub within : at - 1 < length t.watch.guards.items
-  pub is : get_or t.watch.guards.items (at - 1) lit ≡ lit
+  pub within : at - 1 < length (guards_of t.watch)
+  pub is : get_or (guards_of t.watch) (at - 1) lit ≡ lit
   pub at_is : at ≡ suc (at - 1)
   pub clause : (at - 1) / 2 < length (clauses_of t.store)
-  pub twin_in : twin (at - 1) < length t.watch.guards.items
+  pub twin_in : twin (at - 1) < length (guards_of t.watch)
 
 pub stands_at : (t : Inner) (lit : Lit) (before at : ℕ) → IsKept t → IsWalk t lit before at → 0 < at → IsAt t lit before at
 stands_at t lit before at kept walk some =
     let w = at - 1 in
-    let rest = chain_some t.watch.next.items at walk.rest walk.along.chain some in
-    let along = subst (λ (xs : List ℕ). IsAlong t.watch.guards.items t.watch.next.items (get_or t.watch.firsts.items lit.0 0) lit before at walk.past xs) rest.1 walk.along in
+    let rest = chain_some (next_of t.watch) at walk.rest walk.along.chain some in
+    let along = subst (λ (xs : List ℕ). IsAlong (guards_of t.watch) (next_of t.watch) (get_or t.watch.firsts.items lit.0 0) lit before at walk.past xs) rest.1 walk.along in
     let own = along.rest_members w (0, omega arith, refl) in
     let within = own.0 in
     let long = kept.guards_long in
@@ -108,8 +110,8 @@ stands_at t lit before at kept walk some =
     }
 
 -- where the watcher before stands
-pub before_within : (t : Inner) (lit : Lit) (before at : ℕ) → IsKept t → IsWalk t lit before at → before ≤ length t.watch.next.items
-before_within t lit before at kept walk = last_within t.watch.guards.items t.watch.next.items (get_or t.watch.firsts.items lit.0 0) lit before at walk.past walk.rest walk.along
+pub before_within : (t : Inner) (lit : Lit) (before at : ℕ) → IsKept t → IsWalk t lit before at → before ≤ length (next_of t.watch)
+before_within t lit before at kept walk = last_within (guards_of t.watch) (next_of t.watch) (get_or t.watch.firsts.items lit.0 0) lit before at walk.past walk.rest walk.along
 
 -- ---- the walk begins and ends
 
@@ -125,28 +127,28 @@ walk_begins t lit at kept waiting is first =
       number = number;
       past = [];
       rest = listed.list;
-      along = subst (λ (n : ℕ). IsAlong t.watch.guards.items t.watch.next.items start lit 0 n [] listed.list) (sym first) (along_begins t.watch.guards.items t.watch.next.items start lit listed);
+      along = subst (λ (n : ℕ). IsAlong (guards_of t.watch) (next_of t.watch) start lit 0 n [] listed.list) (sym first) (along_begins (guards_of t.watch) (next_of t.watch) start lit listed);
       done = λ w c has. absurd (let lt = has.1 in omega arith);
     }
 
 -- the list is no longer than there are watchers
-pub walk_few : (t : Inner) (lit : Lit) (before at : ℕ) → IsWalk t lit before at → (ws : List ℕ) → IsChain t.watch.next.items at ws → length ws ≤ length t.watch.guards.items
+pub walk_few : (t : Inner) (lit : Lit) (before at : ℕ) → IsWalk t lit before at → (ws : List ℕ) → IsChain (next_of t.watch) at ws → length ws ≤ length (guards_of t.watch)
 walk_few t lit before at walk ws chain =
-    let same : walk.rest ≡ ws = chain_unique t.watch.next.items at walk.rest ws walk.along.chain chain in
-    subst (λ (xs : List ℕ). length xs ≤ length t.watch.guards.items) same
-    (list_fits walk.rest (length t.watch.guards.items) walk.along.rest_apart (λ v has. (walk.along.rest_members v has).0))
+    let same : walk.rest ≡ ws = chain_unique (next_of t.watch) at walk.rest ws walk.along.chain chain in
+    subst (λ (xs : List ℕ). length xs ≤ length (guards_of t.watch)) same
+    (list_fits walk.rest (length (guards_of t.watch)) walk.along.rest_apart (λ v has. (walk.along.rest_members v has).0))
 
 -- after as many turns as there were watchers
-pub walk_short : (t : Inner) (lit : Lit) (before at turns most : ℕ) → IsWalk t lit before at → ((ws : List ℕ) → IsChain t.watch.next.items at ws → length ws + turns ≤ most) → most ≤ turns → at ≡ 0
+pub walk_short : (t : Inner) (lit : Lit) (before at turns most : ℕ) → IsWalk t lit before at → ((ws : List ℕ) → IsChain (next_of t.watch) at ws → length ws + turns ≤ most) → most ≤ turns → at ≡ 0
 walk_short t lit before at turns most walk few all =
     let le = few walk.rest walk.along.chain in
-    chain_short t.watch.next.items at walk.rest walk.along.chain (omega arith)
+    chain_short (next_of t.watch) at walk.rest walk.along.chain (omega arith)
 
 pub walk_ends : (t : Inner) (lit : Lit) (before at : ℕ) → IsKept t → IsWalk t lit before at → at ≡ 0
-    → AreGuarded (clauses_of t.store) t.watch.guards.items t.table.order.items (take (suc t.head) t.table.order.items)
+    → AreGuarded (clauses_of t.store) (guards_of t.watch) t.table.order.items (take (suc t.head) t.table.order.items)
 walk_ends t lit before at kept walk end =
-    let none = chain_none t.watch.next.items at walk.rest walk.along.chain end in
-    are_next (clauses_of t.store) t.watch.guards.items t.table.order.items t.head lit walk.waiting walk.lit_is
+    let none = chain_none (next_of t.watch) at walk.rest walk.along.chain end in
+    are_next (clauses_of t.store) (guards_of t.watch) t.table.order.items t.head lit walk.waiting walk.lit_is
     (λ w c lt e. ⊎_elim (λ past. walk.done w c past) (λ rest. absurd (let h = subst (λ (xs : List ℕ). Contains xs w) none rest in let below = h.1 in omega arith)) (walk.along.whole w lt e))
     kept.guarded
 
@@ -158,7 +160,7 @@ pub turn_stays : (t u : Inner) (lit : Lit) (before at : ℕ) → IsKept t → Is
 turn_stays t u lit before at kept walk some further watch head guard =
     let w = at - 1 in
     let here = stands_at t lit before at kept walk some in
-    let stays = along_stays t.watch.guards.items t.watch.next.items (get_or t.watch.firsts.items lit.0 0) lit before at here.past w here.ws here.along in
+    let stays = along_stays (guards_of t.watch) (next_of t.watch) (get_or t.watch.firsts.items lit.0 0) lit before at here.past w here.ws here.along in
     let waiting = walk.waiting in
     let longer = further.longer in
     let done : (v : ℕ) (c : List Lit) → Contains (w ∷ here.past) v → Guards u.table.order.items (take (suc t.head) u.table.order.items) (get_or (clauses_of t.store) (v / 2) c) lit = λ v c has.
@@ -176,24 +178,23 @@ turn_stays t u lit before at kept walk some further watch head guard =
         along = rw watch stays;
         done = λ v c has. rw (further.store, head) (done v c has);
       };
-      rest = λ ws chain. (here.at_is, here.along.chain.1, subst (λ (x : Watch). IsChain x.next.items (get_or t.watch.next.items w 0) ws) watch chain);
+      rest = λ ws chain. (here.at_is, here.along.chain.1, subst (λ (x : Watch). IsChain (next_of x) (get_or (next_of t.watch) w 0) ws) watch chain);
     }
 
 -- what the code did when the watcher moved
 pub record IsMoved (v w : Watch) (lit : Lit) (before at : ℕ) (to : Lit) : Type 0 where
-  pub shifted : IsShifted v.guards.items w.guards.items v.next.items w.next.items v.firsts.items w.firsts.items lit before at to
-  pub guards_room : vec_capacity w.guards ≡ vec_capacity v.guards
-  pub next_room : vec_capacity w.next ≡ vec_capacity v.next
+  pub shifted : IsShifted (guards_of v) (guards_of w) (next_of v) (next_of w) v.firsts.items w.firsts.items lit before at to
+  pub room : vec_capacity w.watchers ≡ vec_capacity v.watchers
 
 -- where it moves to
 pub record IsTarget (t : Inner) (at : ℕ) (to : Lit) : Type 0 where
   pub number : to.0 < length t.watch.firsts.items
   pub left : IsFalseLit t.table.order.items to → ⊥
   pub within : (c : List Lit) → Contains (get_or (clauses_of t.store) ((at - 1) / 2) c) to
-  pub differs : (d : Lit) → to ≡ get_or t.watch.guards.items (twin (at - 1)) d → ⊥
+  pub differs : (d : Lit) → to ≡ get_or (guards_of t.watch) (twin (at - 1)) d → ⊥
 
 pub target_of : (t : Inner) (lit : Lit) (before at : ℕ) (to : Lit) → IsKept t → IsWalk t lit before at → 0 < at
-    → ((d : Lit) (c : List Lit) → IsOther t.table.truths.items (get_or (clauses_of t.store) ((at - 1) / 2) c) (get_or t.watch.guards.items (twin (at - 1)) d) to) → IsTarget t at to
+    → ((d : Lit) (c : List Lit) → IsOther t.table.truths.items (get_or (clauses_of t.store) ((at - 1) / 2) c) (get_or (guards_of t.watch) (twin (at - 1)) d) to) → IsTarget t at to
 target_of t lit before at to kept walk some other =
     let here = stands_at t lit before at kept walk some in
     record {
@@ -204,9 +205,9 @@ target_of t lit before at to kept walk some other =
     }
 
 moved_along : (t : Inner) (watch : Watch) (lit : Lit) (before at : ℕ) (to : Lit) (here : IsAt t lit before at) → IsKept t → IsWalk t lit before at → IsTarget t at to → IsMoved t.watch watch lit before at to
-    → IsLeftAlong watch.guards.items t.watch.next.items watch.next.items watch.firsts.items lit before at here.past here.ws
+    → IsLeftAlong (guards_of watch) (next_of t.watch) (next_of watch) watch.firsts.items lit before at here.past here.ws
 moved_along t watch lit before at to here kept walk target moved =
-    along_shifted t.watch.guards.items watch.guards.items t.watch.next.items watch.next.items t.watch.firsts.items watch.firsts.items lit before at here.past here.ws to kept.listed here.along walk.number target.number
+    along_shifted (guards_of t.watch) (guards_of watch) (next_of t.watch) (next_of watch) t.watch.firsts.items watch.firsts.items lit before at here.past here.ws to kept.listed here.along walk.number target.number
     (λ e. target.left (subst (IsFalseLit t.table.order.items) (sym (same_lit to lit e)) (walk_false t lit before at walk)))
     moved.shifted
 
@@ -216,8 +217,8 @@ moved_kept t watch lit before at to kept walk some target moved =
     let here = stands_at t lit before at kept walk some in
     let left = moved_along t watch lit before at to here kept walk target moved in
     let guards_are = moved.shifted.guards_are in
-    let a = moved.guards_room in let b = moved.next_room in let c = kept.guards_room in let d = kept.next_room in
-    let guards_long : length watch.guards.items ≡ length t.watch.guards.items = ap length guards_are ∙ length-set t.watch.guards.items w to in
+    let a = moved.room in let b = kept.watchers_room in
+    let guards_long : length (guards_of watch) ≡ length (guards_of t.watch) = ap length guards_are ∙ length-set (guards_of t.watch) w to in
     record {
       trail = kept.trail;
       store = kept.store;
@@ -225,13 +226,13 @@ moved_kept t watch lit before at to kept walk some target moved =
       starts = kept.starts;
       fronts = kept.fronts;
       listed = left.listed;
-      firsts_long = firsts_long t.watch.firsts.items watch.firsts.items lit before (get_or t.watch.next.items w 0) to at moved.shifted.firsts_are ∙ kept.firsts_long;
+      firsts_long = firsts_long t.watch.firsts.items watch.firsts.items lit before (get_or (next_of t.watch) w 0) to at moved.shifted.firsts_are ∙ kept.firsts_long;
       guards_long = guards_long ∙ kept.guards_long;
       guarded = rw guards_are
-          (are_moved (clauses_of t.store) t.watch.guards.items t.table.order.items (take t.head t.table.order.items) w to here.within
+          (are_moved (clauses_of t.store) (guards_of t.watch) t.table.order.items (take t.head t.table.order.items) w to here.within
           (λ c. guards_moved t.table.order.items t.table.order.items t.head (get_or (clauses_of t.store) (w / 2) c) to (target.within c) target.left) target.differs kept.guarded);
       were = λ k lt. rw guards_are
-          (are_moved (clauses_of t.store) t.watch.guards.items (take (get_or t.starts.items k 0) t.table.order.items) (take (get_or t.fronts.items k 0) t.table.order.items) w to here.within
+          (are_moved (clauses_of t.store) (guards_of t.watch) (take (get_or t.starts.items k 0) t.table.order.items) (take (get_or t.fronts.items k 0) t.table.order.items) w to here.within
           (λ c. guards_moved t.table.order.items (take (get_or t.starts.items k 0) t.table.order.items) (get_or t.fronts.items k 0) (get_or (clauses_of t.store) (w / 2) c) to (target.within c) target.left) target.differs (kept.were k lt));
       head_within = kept.head_within;
       seen_within = kept.seen_within;
@@ -239,8 +240,7 @@ moved_kept t watch lit before at to kept walk some target moved =
       order_room = kept.order_room;
       starts_room = kept.starts_room;
       fronts_room = kept.fronts_room;
-      guards_room = omega arith;
-      next_room = omega arith;
+      watchers_room = omega arith;
     }
 
 pub turn_moves : (t : Inner) (watch : Watch) (lit : Lit) (before at : ℕ) (to : Lit) → IsKept t → IsWalk t lit before at → 0 < at → IsTarget t at to → IsMoved t.watch watch lit before at to
@@ -250,7 +250,7 @@ turn_moves t watch lit before at to kept walk some target moved =
     let here = stands_at t lit before at kept walk some in
     let left = moved_along t watch lit before at to here kept walk target moved in
     let number = walk.number in
-    let same = firsts_long t.watch.firsts.items watch.firsts.items lit before (get_or t.watch.next.items w 0) to at moved.shifted.firsts_are in
+    let same = firsts_long t.watch.firsts.items watch.firsts.items lit before (get_or (next_of t.watch) w 0) to at moved.shifted.firsts_are in
     record {
       walk = record {
         waiting = walk.waiting;
@@ -264,36 +264,38 @@ turn_moves t watch lit before at to kept walk some target moved =
       rest = λ ws chain. (
         here.at_is,
         here.along.chain.1,
-        subst (IsChain t.watch.next.items (get_or t.watch.next.items w 0)) (chain_unique watch.next.items (get_or t.watch.next.items w 0) here.ws ws left.along.chain chain) here.along.chain.2,
+        subst (IsChain (next_of t.watch) (get_or (next_of t.watch) w 0)) (chain_unique (next_of watch) (get_or (next_of t.watch) w 0) here.ws ws left.along.chain chain) here.along.chain.2,
       );
     }
 
 -- the other watched literal stands in the clause
-pub other_within : (t : Inner) (lit : Lit) (before at : ℕ) (other : Lit) → IsKept t → IsWalk t lit before at → 0 < at → ((d : Lit) → other ≡ get_or t.watch.guards.items (twin (at - 1)) d)
+pub other_within : (t : Inner) (lit : Lit) (before at : ℕ) (other : Lit) → IsKept t → IsWalk t lit before at → 0 < at → ((d : Lit) → other ≡ get_or (guards_of t.watch) (twin (at - 1)) d)
     → (c : List Lit) → Contains (get_or (clauses_of t.store) ((at - 1) / 2) c) other
 other_within t lit before at other kept walk some is c =
     let w = at - 1 in
     let here = stands_at t lit before at kept walk some in
     subst (λ (l : Lit). Contains (get_or (clauses_of t.store) (w / 2) c) l) (sym (is lit))
-    (subst (λ (k : ℕ). Contains (get_or (clauses_of t.store) k c) (get_or t.watch.guards.items (twin w) lit)) (twin_half w) (kept.guarded.each (twin w) c lit here.twin_in).within)
+    (subst (λ (k : ℕ). Contains (get_or (clauses_of t.store) k c) (get_or (guards_of t.watch) (twin w) lit)) (twin_half w) (kept.guarded.each (twin w) c lit here.twin_in).within)
 
 -- the other watched literal, as the code reads it
 pub record IsRead (t : Inner) (at : ℕ) (other : Lit) : Type 0 where
-  pub is : (d : Lit) → other ≡ get_or t.watch.guards.items (twin (at - 1)) d
+  pub is : (d : Lit) → other ≡ get_or (guards_of t.watch) (twin (at - 1)) d
   pub number : other.0 < length t.table.truths.items
 
-pub other_read : (t : Inner) (lit : Lit) (before at place : ℕ) (other : Lit) → IsKept t → IsWalk t lit before at → 0 < at → place ≡ twin (at - 1) → other ≡ get_or t.watch.guards.items place other → IsRead t at other
+pub other_read : (t : Inner) (lit : Lit) (before at place : ℕ) (other : Watcher) → IsKept t → IsWalk t lit before at → 0 < at → place ≡ twin (at - 1) → other ≡ get_or t.watch.watchers.items place other → IsRead t at other.lit
 other_read t lit before at place other kept walk some place_is read =
     let here = stands_at t lit before at kept walk some in
-    let is : (d : Lit) → other ≡ get_or t.watch.guards.items (twin (at - 1)) d = λ d.
-    read ∙ ap (λ (n : ℕ). get_or t.watch.guards.items n other) place_is ∙ get_or_default t.watch.guards.items (twin (at - 1)) other d here.twin_in in
+    let inside = here.twin_in in
+    let count = guards_count t.watch in
+    let is : (d : Lit) → other.lit ≡ get_or (guards_of t.watch) (twin (at - 1)) d = λ d.
+    guard_read t.watch place other d (omega arith) read ∙ ap (λ (n : ℕ). get_or (guards_of t.watch) n d) place_is in
     record {
       is = is;
-      number = (numbered t other kept (in_variables t ((at - 1) / 2) [] other kept here.clause (other_within t lit before at other kept walk some is []))).number;
+      number = (numbered t other.lit kept (in_variables t ((at - 1) / 2) [] other.lit kept here.clause (other_within t lit before at other.lit kept walk some is []))).number;
     }
 
 -- the clause of the watcher has a true literal
-pub turn_satisfied : (t u : Inner) (lit : Lit) (before at : ℕ) (other : Lit) → IsKept t → IsWalk t lit before at → 0 < at → ((d : Lit) → other ≡ get_or t.watch.guards.items (twin (at - 1)) d) → Contains u.table.order.items other
+pub turn_satisfied : (t u : Inner) (lit : Lit) (before at : ℕ) (other : Lit) → IsKept t → IsWalk t lit before at → 0 < at → ((d : Lit) → other ≡ get_or (guards_of t.watch) (twin (at - 1)) d) → Contains u.table.order.items other
     → (c : List Lit) → Guards u.table.order.items (take (suc t.head) u.table.order.items) (get_or (clauses_of t.store) ((at - 1) / 2) c) lit
 turn_satisfied t u lit before at other kept walk some is is_true c =
     let w = at - 1 in
@@ -306,7 +308,7 @@ turn_satisfied t u lit before at other kept walk some is is_true c =
 -- ---- turn after turn
 
 pub walking_begins : (t : Inner) (lit : Lit) (at most : ℕ) → IsKept t → t.head < length t.table.order.items → ((d : Lit) → lit ≡ negated (get_or t.table.order.items t.head d))
-    → at ≡ get_or t.watch.firsts.items lit.0 at → length t.watch.guards.items ≤ most → IsWalking t t lit 0 at 0 most
+    → at ≡ get_or t.watch.firsts.items lit.0 at → length (guards_of t.watch) ≤ most → IsWalking t t lit 0 at 0 most
 walking_begins t lit at most kept waiting is first le =
     let walk = walk_begins t lit at kept waiting is (first ∙ get_or_default t.watch.firsts.items lit.0 at 0 (walk_number t lit kept waiting is)) in
     record {
@@ -319,24 +321,23 @@ walking_begins t lit at most kept waiting is first le =
     }
 
 -- what stands behind the watcher
-pub behind_within : (t : Inner) (lit : Lit) (before at : ℕ) → IsKept t → IsWalk t lit before at → 0 < at → at - 1 < length t.watch.next.items
+pub behind_within : (t : Inner) (lit : Lit) (before at : ℕ) → IsKept t → IsWalk t lit before at → 0 < at → at - 1 < length (next_of t.watch)
 behind_within t lit before at kept walk some = let lt = (stands_at t lit before at kept walk some).within in let long = kept.listed.next_long in omega arith
 
-pub walking_more : (s t u : Inner) (lit : Lit) (before at now behind turns most : ℕ) → IsWalking s t lit before at turns most → 0 < at → behind ≡ get_or t.watch.next.items (at - 1) behind
+pub walking_more : (s t u : Inner) (lit : Lit) (before at now behind turns most : ℕ) → IsWalking s t lit before at turns most → 0 < at → behind ≡ get_or (next_of t.watch) (at - 1) 0
     → IsKept u → IsFurther t u → u.head ≡ t.head → u.seen ≡ t.seen → IsTurn t u lit now at → IsWalking s u lit now behind (turns + 1) most
-walking_more s t u lit before at now behind turns most walking some read kept further head seen turn =
-    let behind_is : behind ≡ get_or t.watch.next.items (at - 1) 0 = read ∙ get_or_default t.watch.next.items (at - 1) behind 0 (behind_within t lit before at walking.kept walking.walk some) in
+walking_more s t u lit before at now behind turns most walking some behind_is kept further head seen turn =
     record {
       kept = kept;
       further = further_join s t u walking.further further;
       head = head ∙ walking.head;
       seen = seen ∙ walking.seen;
       walk = subst (IsWalk u lit now) (sym behind_is) turn.walk;
-      few = λ ws chain. let le = walking.few ((at - 1) ∷ ws) (turn.rest ws (subst (λ (n : ℕ). IsChain u.watch.next.items n ws) behind_is chain)) in omega arith;
+      few = λ ws chain. let le = walking.few ((at - 1) ∷ ws) (turn.rest ws (subst (λ (n : ℕ). IsChain (next_of u.watch) n ws) behind_is chain)) in omega arith;
     }
 
 -- ---- propagation
 
 pub handled_outcome : (t : Inner) (found : Option ℕ) → IsKept t → length (clauses_of t.store) ≤ t.seen → IsHandled t found → IsPropagated t found
-handled_outcome t None kept all none = guarded_quiet (clauses_of t.store) t.watch.guards.items t.table.order.items t.head t.seen (kept_consistent t kept) kept.guards_long kept.guarded none all
+handled_outcome t None kept all none = guarded_quiet (clauses_of t.store) (guards_of t.watch) t.table.order.items t.head t.seen (kept_consistent t kept) kept.guards_long kept.guarded none all
 handled_outcome t (Some at) kept all is_false = is_false

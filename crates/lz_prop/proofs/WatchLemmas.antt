@@ -270,9 +270,9 @@ without_other : (next past : List ℕ) (behind v : ℕ) → (Contains past v →
 without_other next [] behind v off = refl
 without_other next (p ∷ ps) behind v off = get_or-set_other next p v behind 0 (λ e. off (subst (Contains (p ∷ ps)) (sym e) (first_in p ps)))
 
-length-firsts : (firsts : List ℕ) (lit : ℕ) (past : List ℕ) (behind : ℕ) → length (firsts_without firsts lit (last_of past) behind) ≡ length firsts
-length-firsts firsts lit [] behind = length-set firsts lit behind
-length-firsts firsts lit (p ∷ ps) behind = refl
+pub length-firsts_without : (firsts : List ℕ) (lit before behind : ℕ) → length (firsts_without firsts lit before behind) ≡ length firsts
+length-firsts_without firsts lit zero behind = length-set firsts lit behind
+length-firsts_without firsts lit (suc before) behind = refl
 
 firsts_other : (firsts : List ℕ) (lit : ℕ) (past : List ℕ) (behind l : ℕ) → (l ≡ lit → ⊥) → get_or (firsts_without firsts lit (last_of past) behind) l 0 ≡ get_or firsts l 0
 firsts_other firsts lit [] behind l ne = get_or-set_other firsts lit l behind 0 ne
@@ -291,8 +291,7 @@ run_without next firsts lit (p ∷ ps) at behind lt apart run =
 
 -- there are as many lists as before
 pub firsts_long : (firsts firsts2 : List ℕ) (lit : Lit) (before behind : ℕ) (to : Lit) (at : ℕ) → firsts2 ≡ set (firsts_without firsts lit.0 before behind) to.0 at → length firsts2 ≡ length firsts
-firsts_long firsts firsts2 lit zero behind to at is = ap length is ∙ length-set (set firsts lit.0 behind) to.0 at ∙ length-set firsts lit.0 behind
-firsts_long firsts firsts2 lit (suc before) behind to at is = ap length is ∙ length-set firsts to.0 at
+firsts_long firsts firsts2 lit before behind to at is = ap length is ∙ length-set (firsts_without firsts lit.0 before behind) to.0 at ∙ length-firsts_without firsts lit.0 before behind
 
 last_in : (next : List ℕ) (start : ℕ) (past : List ℕ) (at : ℕ) → IsRun next start past at → last_of past ≤ length next
 last_in next start [] at run = omega arith
@@ -316,7 +315,7 @@ shifted_at guards next firsts lit at past w ws to are is number number_to ne fir
     let behind = get_or next w 0 in
     let next_long = are.next_long in
     let long1 : length next1 ≡ length next = ap length next1_is ∙ length-without next past behind in
-    let long1f : length firsts1 ≡ length firsts = ap length firsts1_is ∙ length-firsts firsts lit.0 past behind in
+    let long1f : length firsts1 ≡ length firsts = ap length firsts1_is ∙ length-firsts_without firsts lit.0 (last_of past) behind in
     let front = get_or firsts1 to.0 0 in
     let next2 = set next1 w front in
     let long2 = length-set next1 w front in

@@ -6,6 +6,7 @@ use Rattle.lz_cnf.specs.Partial.{IsQuiet, IsFalseClause}
 use Rattle.lz_prop.specs.declared.inner.Inner.{Inner}
 use Rattle.lz_prop.specs.Trail.{Extends}
 use Rattle.lz_prop.specs.Guarded.{Guards, AreGuarded}
+use Rattle.lz_prop.specs.Watchers.{guards_of}
 use Rattle.lz_prop.specs.Stored.{clauses_of}
 use Rattle.lz_prop.specs.Kept.{state_of}
 
@@ -41,7 +42,7 @@ IsLookedThrough t (Some at) = IsFalseKept t at
 
 -- the first literal that waits can be taken as handled, or a clause is false
 abbrev pub IsVisited : Inner → Option ℕ → Type 0
-IsVisited t None = AreGuarded (clauses_of t.store) t.watch.guards.items t.table.order.items (take (suc t.head) t.table.order.items)
+IsVisited t None = AreGuarded (clauses_of t.store) (guards_of t.watch) t.table.order.items (take (suc t.head) t.table.order.items)
 IsVisited t (Some at) = IsFalseKept t at
 
 -- no literal waits, or a clause is false

@@ -7,6 +7,7 @@ use Rattle.lz_prop.specs.Guarded.{AreGuarded, WereGuarded, AreFronts}
 use Rattle.lz_prop.specs.Parts.{entries, IsTable, AreStarts}
 use Rattle.lz_prop.specs.Stored.{IsStore, clauses_of}
 use Rattle.lz_prop.specs.Watch.{AreListed}
+use Rattle.lz_prop.specs.Watchers.{guards_of, next_of}
 
 -- what the parts stand for
 abbrev pub state_of : Inner → TrailState
@@ -25,16 +26,15 @@ pub record IsKept (t : Inner) : Type 0 where
   pub table : IsTable t.variables t.table.truths.items t.table.levels.items t.table.reasons.items t.table.order.items
   pub starts : AreStarts (state_of t).set t.starts.items
   pub fronts : AreFronts t.starts.items t.fronts.items
-  pub listed : AreListed t.watch.guards.items t.watch.next.items t.watch.firsts.items
+  pub listed : AreListed (guards_of t.watch) (next_of t.watch) t.watch.firsts.items
   pub firsts_long : length t.watch.firsts.items ≡ 2 * t.variables
-  pub guards_long : length t.watch.guards.items ≡ 2 * t.seen
-  pub guarded : AreGuarded (clauses_of t.store) t.watch.guards.items t.table.order.items (take t.head t.table.order.items)
-  pub were : WereGuarded (clauses_of t.store) t.watch.guards.items t.table.order.items t.starts.items t.fronts.items
+  pub guards_long : length (guards_of t.watch) ≡ 2 * t.seen
+  pub guarded : AreGuarded (clauses_of t.store) (guards_of t.watch) t.table.order.items (take t.head t.table.order.items)
+  pub were : WereGuarded (clauses_of t.store) (guards_of t.watch) t.table.order.items t.starts.items t.fronts.items
   pub head_within : t.head ≤ length t.table.order.items
   pub seen_within : t.seen ≤ length (clauses_of t.store)
   pub few : t.variables ≤ 2147483648
   pub order_room : t.variables ≤ vec_capacity t.table.order
   pub starts_room : t.variables ≤ vec_capacity t.starts
   pub fronts_room : t.variables ≤ vec_capacity t.fronts
-  pub guards_room : 2 * length (clauses_of t.store) ≤ vec_capacity t.watch.guards
-  pub next_room : 2 * length (clauses_of t.store) ≤ vec_capacity t.watch.next
+  pub watchers_room : 2 * length (clauses_of t.store) ≤ vec_capacity t.watch.watchers

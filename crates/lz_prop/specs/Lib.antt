@@ -2,6 +2,7 @@ pub mod Trail
 pub mod Parts
 pub mod Stored
 pub mod Watch
+pub mod Watchers
 pub mod Tabled
 pub mod Kept
 pub mod Further

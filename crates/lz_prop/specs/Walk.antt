@@ -6,6 +6,7 @@ use Rattle.lz_cnf.specs.Models.{negated}
 use Rattle.lz_prop.specs.declared.inner.Inner.{Inner}
 use Rattle.lz_prop.specs.Guarded.{Guards}
 use Rattle.lz_prop.specs.Watch.{IsChain, IsAlong}
+use Rattle.lz_prop.specs.Watchers.{guards_of, next_of}
 use Rattle.lz_prop.specs.Stored.{clauses_of}
 use Rattle.lz_prop.specs.Kept.{IsKept}
 use Rattle.lz_prop.specs.Further.{IsFurther, IsFalseKept}
@@ -29,13 +30,13 @@ pub record IsWalk (t : Inner) (lit : Lit) (before at : ℕ) : Type 0 where
   pub number : lit.0 < length t.watch.firsts.items
   pub past : List ℕ
   pub rest : List ℕ
-  pub along : IsAlong t.watch.guards.items t.watch.next.items (slice_index t.watch.firsts.items lit.0) lit before at past rest
+  pub along : IsAlong (guards_of t.watch) (next_of t.watch) (slice_index t.watch.firsts.items lit.0) lit before at past rest
   pub done : (w : ℕ) (c : List Lit) → Contains past w → Guards t.table.order.items (take (suc t.head) t.table.order.items) (slice_index_or (clauses_of t.store) (w / 2) c) lit
 
 -- The watcher `at` was looked at: it stays, or another list has it. The rest of the list is as it was.
 pub record IsTurn (old now : Inner) (lit : Lit) (before at : ℕ) : Type 0 where
-  pub walk : IsWalk now lit before (slice_index old.watch.next.items (at - 1))
-  pub rest : (ws : List ℕ) → IsChain now.watch.next.items (slice_index old.watch.next.items (at - 1)) ws → IsChain old.watch.next.items at ((at - 1) ∷ ws)
+  pub walk : IsWalk now lit before (slice_index (next_of old.watch) (at - 1))
+  pub rest : (ws : List ℕ) → IsChain (next_of now.watch) (slice_index (next_of old.watch) (at - 1)) ws → IsChain (next_of old.watch) at ((at - 1) ∷ ws)
 
 -- the watcher stands behind this one now, or its clause is false
 abbrev pub IsTurned : Inner → Inner → Lit → ℕ → Option ℕ → Type 0
@@ -49,4 +50,4 @@ pub record IsWalking (old now : Inner) (lit : Lit) (before at turns most : ℕ) 
   pub head : now.head ≡ old.head
   pub seen : now.seen ≡ old.seen
   pub walk : IsWalk now lit before at
-  pub few : (ws : List ℕ) → IsChain now.watch.next.items at ws → length ws + turns ≤ most
+  pub few : (ws : List ℕ) → IsChain (next_of now.watch) at ws → length ws + turns ≤ most

@@ -7,6 +7,7 @@ ghost use Rattle.lz_cnf.specs.Partial.{IsUnassigned, IsQuiet};
 ghost use Rattle.lz_prop.specs.Trail.{RestsOn, opening, decided, gone_back, with_clause, given_up, WasOpen};
 ghost use Rattle.lz_prop.specs.Stored.{IsStore, clauses_of};
 ghost use Rattle.lz_prop.specs.Watch.{twin};
+ghost use Rattle.lz_prop.specs.Watchers.{guards_of};
 ghost use Rattle.lz_prop.specs.Guarded.{IsGuarded, WasGuarded};
 ghost use Rattle.lz_prop.specs.Kept.{IsKept, state_of};
 ghost use Rattle.lz_prop.specs.Scan.{AreOthersFalse, IsLeft, IsOther, IsLeftFound, IsOtherFound, IsLast};
@@ -265,7 +266,7 @@ impl Inner {
         requires kept { IsKept self.old }
         requires walk { IsWalk self.old lit before at }
         requires some { 0 < at }
-        requires other { (d : Lit) (c : List Lit) → IsOther self.old.table.truths.items (slice_index_or (clauses_of self.old.store) ((at - 1) / 2) c) (slice_index_or self.old.watch.guards.items (twin (at - 1)) d) to }
+        requires other { (d : Lit) (c : List Lit) → IsOther self.old.table.truths.items (slice_index_or (clauses_of self.old.store) ((at - 1) / 2) c) (slice_index_or (guards_of self.old.watch) (twin (at - 1)) d) to }
         ensures kept { IsKept self.new }
         ensures further { IsFurther self.old self.new }
         ensures head { self.new.head ≡ self.old.head }
@@ -287,7 +288,7 @@ impl Inner {
         ensures seen { self.new.seen ≡ self.old.seen }
         ensures turned { IsTurned self.old self.new lit at result }
     {
-        let other = self.watch.guards[twin(at - 1)];
+        let other = self.watch.watchers[twin(at - 1)].lit;
         if self.table.truths[other.0 as usize] == 1 {
             return Some(at);
         }
@@ -300,7 +301,7 @@ impl Inner {
         requires kept { IsKept self.old }
         requires walk { IsWalk self.old lit before at }
         requires some { 0 < at }
-        requires other { (d : Lit) → other ≡ slice_index_or self.old.watch.guards.items (twin (at - 1)) d }
+        requires other { (d : Lit) → other ≡ slice_index_or (guards_of self.old.watch) (twin (at - 1)) d }
         ensures kept { IsKept self.new }
         ensures further { IsFurther self.old self.new }
         ensures head { self.new.head ≡ self.old.head }
@@ -331,12 +332,12 @@ impl Inner {
     {
         let mut before = 0;
         let mut at = self.watch.firsts[lit.0 as usize] as usize;
-        for _ in 0..self.watch.guards.len() {
+        for _ in 0..self.watch.watchers.len() {
             if at == 0 {
                 return None;
             }
             // Read before the turn, so that the processor fetches the next watcher meanwhile.
-            let behind = self.watch.next[at - 1] as usize;
+            let behind = self.watch.watchers[at - 1].next as usize;
             match self.turn(lit, before, at) {
                 Some(now) => {
                     before = now;
@@ -418,8 +419,7 @@ impl Inner {
         ensures store { self.new.store ≡ self.old.store }
         ensures state { state_of self.new ≡ state_of self.old }
         ensures starts { self.new.starts ≡ self.old.starts }
-        ensures guards_room { OnOk result (2 * length (clauses_of self.new.store) + 2 ≤ vec_capacity self.new.watch.guards) }
-        ensures next_room { OnOk result (2 * length (clauses_of self.new.store) + 2 ≤ vec_capacity self.new.watch.next) }
+        ensures room { OnOk result (2 * length (clauses_of self.new.store) + 2 ≤ vec_capacity self.new.watch.watchers) }
     {
         self.watch.reserve(2 * (self.store.len() + 1 - self.seen))
     }

@@ -11,7 +11,7 @@ returns-clause-kept c =
     let t = c.args.self.now in
     let u = c.widen.new.self in
     let same = ap (λ (s : TrailState). s.variables) c.widen.ensures.state in
-    added_kept u c.keep.new.self c.args.clause.now c.widen.ensures.kept (record { guards = c.in_ok-widen.ensures.guards_room; next = c.in_ok-widen.ensures.next_room })
+    added_kept u c.keep.new.self c.args.clause.now c.widen.ensures.kept (record { room = c.in_ok-widen.ensures.room })
     c.keep.ensures.store c.in_ok-keep.ensures.ok
     (subst (λ (n : ℕ). All (λ l. variable_of l < n) c.args.clause.now) (sym same) c.requires.variables) c.requires.not_empty
     (subst (λ (s : TrailState). WasOpen s (length u.starts.items) c.args.clause.now) (sym c.widen.ensures.state)

@@ -1,5 +1,6 @@
 use Rattle.std.proofs.Common.{arith}
 use Rattle.lz_prop.proofs.StoreLemmas.{length-cut}
+use Rattle.lz_prop.proofs.WatchersLemmas.{guards_count, next_count}
 use Rattle.lz_prop.proofs.WalkLemmas.{IsTarget, IsMoved, stands_at, before_within, target_of, moved_kept, turn_moves}
 use Rattle.lz_prop.proofs.inner.Inner.shift.Goals as goal
 use Rattle.lz_prop.proofs.inner.Inner.shift.Goals.{After-shift}
@@ -8,10 +9,10 @@ pub shift-requires-clause-number_to : goal.shift-requires-clause-number_to
 shift-requires-clause-number_to c = (target_of c.args.self.now c.args.lit c.args.before c.args.at c.args.to c.requires.kept c.requires.walk c.requires.some c.requires.other).number
 
 pub shift-requires-clause-before : goal.shift-requires-clause-before
-shift-requires-clause-before c = before_within c.args.self.now c.args.lit c.args.before c.args.at c.requires.kept c.requires.walk
+shift-requires-clause-before c = let t = c.args.self.now in let le = before_within t c.args.lit c.args.before c.args.at c.requires.kept c.requires.walk in let count = next_count t.watch in omega arith
 
 pub shift-requires-clause-within : goal.shift-requires-clause-within
-shift-requires-clause-within c = let lt = (stands_at c.args.self.now c.args.lit c.args.before c.args.at c.requires.kept c.requires.walk c.requires.some).within in let some = c.requires.some in omega arith
+shift-requires-clause-within c = let count = guards_count c.args.self.now.watch in let lt = (stands_at c.args.self.now c.args.lit c.args.before c.args.at c.requires.kept c.requires.walk c.requires.some).within in let some = c.requires.some in omega arith
 
 pub shift-requires-clause-few : goal.shift-requires-clause-few
 shift-requires-clause-few c =
@@ -29,8 +30,7 @@ target c = target_of c.args.self.now c.args.lit c.args.before c.args.at c.args.t
 moved : (c : After-shift) → IsMoved c.args.self.now.watch c.shift.new.self c.args.lit c.args.before c.args.at c.args.to
 moved c = record {
   shifted = record { guards_are = c.shift.ensures.guards; next_are = c.shift.ensures.next; firsts_are = c.shift.ensures.firsts };
-  guards_room = c.shift.ensures.guards_room;
-  next_room = c.shift.ensures.next_room;
+  room = c.shift.ensures.room;
 }
 
 pub returns-clause-kept : goal.returns-clause-kept
