@@ -1,4 +1,5 @@
 pub mod PlacesLemmas
+pub mod StatementNearsLemmas
 pub mod StatementsLemmas
 pub mod StationRanksLemmas
 pub mod StationsLemmas

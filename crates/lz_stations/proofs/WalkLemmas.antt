@@ -1,5 +1,6 @@
 -- How a statement comes as far as its parts, and by steps of its own.
-use Rattle.std.proofs.Common.{◌≡◌, ◌<◌, ℕ, zero, List, Option, Some, None, inr, refl, sym, ap, subst}
+use Rattle.std.proofs.Common.{◌≡◌, ◌<◌, ◌≤◌, ◌*◌, ℕ, zero, suc, arith, List, Option, Some, None, inr, refl, sym, ap, subst}
+use Rattle.std.proofs.lemmas.Nat.{mul-le}
 use Rattle.lz_tree.specs.ScopedTrees.{ScopedExpression, ScopedStatement, ScopedProgram}
 use Rattle.lz_model.specs.Actions.{Act}
 use Rattle.lz_model.specs.WithoutLoc.{without_loc}
@@ -17,9 +18,11 @@ use Rattle.lz_stations.specs.Stations as at
 use Rattle.lz_stations.specs.StationMoves.{value_at, part_at, station_move, station_leaves}
 use Rattle.lz_stations.specs.StationTraces.{station_trace, with_value, with_statement, statement_resumed, paused, behind_reached, station_moved}
 use Rattle.lz_stations.specs.StationRanks.{station_rank, FallsTo}
-use Rattle.lz_stations.specs.Walks.{StatementComes, InnerComes, Stepped, again, stopped, behind_step, Steps, stepped_by_value, stepped_by_part, StaysAt, EnteredValue, EnteredPart, ComesBehind, GoesDown}
+use Rattle.lz_stations.specs.StatementNears.{inner_most, statement_left, StatementNears}
+use Rattle.lz_stations.specs.Walks.{StatementComes, InnerComes, Stepped, again, stopped, behind_step, StepNears, Steps, stepped_by_value, stepped_by_part, StaysAt, EnteredValue, EnteredPart, ComesBehind, GoesDown}
 use Rattle.lz_stations.proofs.StationsLemmas.{stations_so}
 use Rattle.lz_stations.proofs.StationRanksLemmas.{station_falls}
+use Rattle.lz_stations.proofs.StatementNearsLemmas.{reached_more, step_more, still_nears, within_value, begun_value, within_part, begun_part}
 
 -- nothing more, from any local values
 halted : (s t : Locals) → Alike {A = Flow} halts s halts t
@@ -140,6 +143,27 @@ stays_part station (refuses line) = tt
 stays_part station quits = tt
 stays_part station stops = tt
 
+-- a statement whose expression or part came so far is nearer
+value_near : (n : ℕ) (s : ScopedStatement) (station : Station) (point : Point) (given : ℕ) (before after : Locals) (came : Came) (o : Option ScopedExpression) → value_at s station ≡ o → PartComes o point given before came after
+    → StepNears n s (statement_left n (in_value station point) s) (stepped_by_value station came)
+value_near n s station point given before after came None is part = subst (λ (x : Came). StepNears n s (statement_left n (in_value station point) s) (stepped_by_value station x)) (sym part) tt
+value_near n s station point given before after came (Some e) is part = within_value n s e station point came is part.near
+
+begun_near : (n : ℕ) (s : ScopedStatement) (station : Station) (before after : Locals) (came : Came) (o : Option ScopedExpression) → value_at s station ≡ o → PartComes o (stages.at_stage stages.start) 0 before came after
+    → StepNears n s (suc (station_rank n s station) * suc (inner_most n s)) (stepped_by_value station came)
+begun_near n s station before after came None is part = subst (λ (x : Came). StepNears n s (suc (station_rank n s station) * suc (inner_most n s)) (stepped_by_value station x)) (sym part) tt
+begun_near n s station before after came (Some e) is part = begun_value n s e station came is part.near
+
+part_near : (n : ℕ) (s : ScopedStatement) (station : Station) (footing : Footing) (given : ℕ) (before after : Locals) (reached : Reached) (o : Option ScopedStatement) → part_at s station ≡ o → InnerComes n o footing given before reached after
+    → StepNears n s (statement_left n (in_part station footing) s) (stepped_by_part station reached)
+part_near n s station footing given before after reached None is part = subst (λ (x : Reached). StepNears n s (statement_left n (in_part station footing) s) (stepped_by_part station x)) (sym part) tt
+part_near n s station footing given before after reached (Some a) is part = within_part n s a station footing reached is part.near
+
+begun_part_near : (n : ℕ) (s : ScopedStatement) (station : Station) (before after : Locals) (reached : Reached) (o : Option ScopedStatement) → part_at s station ≡ o → InnerComes n o (at_station at.start) 0 before reached after
+    → StepNears n s (suc (station_rank n s station) * suc (inner_most n s)) (stepped_by_part station reached)
+begun_part_near n s station before after reached None is part = subst (λ (x : Reached). StepNears n s (suc (station_rank n s station) * suc (inner_most n s)) (stepped_by_part station x)) (sym part) tt
+begun_part_near n s station before after reached (Some a) is part = begun_part n s a station reached is part.near
+
 -- no expression, and no statement
 pub value_missing : (o : Option ScopedExpression) (point : Point) (given : ℕ) (before : Locals) → None ≡ o → PartComes o point given before stages.stops before
 value_missing None point given before is = refl
@@ -166,6 +190,7 @@ value_entered s station before after came stepped part is =
       same = λ p n bound depth. subst (λ (x : Stepped). Alike (station_moved (calls_within p n depth) bound s (enters_value station)) before (behind_step (calls_within p n depth) bound s x) after) (sym is)
           (value_steps s station (stages.at_stage stages.start) 0 before after came (value_at s station) refl part p n bound depth);
       stays = subst (λ (x : Stepped). StaysAt station x) (sym is) (stays_value station came);
+      near = λ bound. subst (λ (x : Stepped). StepNears bound s (suc (station_rank bound s station) * suc (inner_most bound s)) x) (sym is) (begun_near bound s station before after came (value_at s station) refl part);
     }
 
 -- a statement is entered
@@ -176,6 +201,7 @@ part_entered bound s station before after reached stepped part is =
       same = λ p n depth. subst (λ (x : Stepped). Alike (station_moved (calls_within p n depth) bound s (enters_part station)) before (behind_step (calls_within p n depth) bound s x) after) (sym is)
           (part_steps bound s station (at_station at.start) 0 before after reached (part_at s station) refl part p n depth);
       stays = subst (λ (x : Stepped). StaysAt station x) (sym is) (stays_part station reached);
+      near = subst (λ (x : Stepped). StepNears bound s (suc (station_rank bound s station) * suc (inner_most bound s)) x) (sym is) (begun_part_near bound s station before after reached (part_at s station) refl part);
     }
 
 -- within an expression, and behind it
@@ -187,6 +213,8 @@ value_comes bound s station point given before middle after came reached stepped
           (subst (λ (x : Stepped). Alike (statement_resumed (calls_within p n depth) bound s (in_value station point) given) before (behind_step (calls_within p n depth) bound s x) middle) (sym is)
           (value_steps s station point given before middle came (value_at s station) refl part p n bound depth))
           (on.same p n depth);
+      near = on.near (statement_left bound (in_value station point) s)
+          (subst (λ (x : Stepped). StepNears bound s (statement_left bound (in_value station point) s) x) (sym is) (value_near bound s station point given before middle came (value_at s station) refl part));
     }
 
 -- within a statement, and behind it
@@ -199,12 +227,14 @@ part_comes bound s station footing given before middle after inner reached stepp
           (subst (λ (x : Stepped). Alike (statement_resumed (calls_within p n depth) bound s (in_part station footing) given) before (behind_step (calls_within p n depth) bound s x) middle) (sym is)
           (part_steps bound s station footing given before middle inner (part_at s station) refl part p n depth))
           (on.same p n depth);
+      near = on.near (statement_left bound (in_part station footing) s)
+          (subst (λ (x : Stepped). StepNears bound s (statement_left bound (in_part station footing) s) x) (sym is) (part_near bound s station footing given before middle inner (part_at s station) refl part));
     }
 
 -- at a station
 pub station_comes : (bound : ℕ) (s : ScopedStatement) (station : Station) (given : ℕ) (before after : Locals) (reached : Reached) → ComesBehind bound s (again station given normal) before reached after
     → StatementComes bound s (at_station station) given before reached after
-station_comes bound s station given before after reached on = record { same = λ p n depth. on.same p n depth }
+station_comes bound s station given before after reached on = record { same = λ p n depth. on.same p n depth; near = on.near (statement_left bound (at_station station) s) (omega arith) }
 
 -- behind a step that leads to a station, and behind one that came so far
 pub behind_again : (bound : ℕ) (s : ScopedStatement) (station : Station) (v : ℕ) (flow : Flow) (before after : Locals) (reached : Reached) (stepped : Stepped)
@@ -212,7 +242,7 @@ pub behind_again : (bound : ℕ) (s : ScopedStatement) (station : Station) (v : 
 behind_again bound s station v flow before after reached stepped is on = subst (λ (x : Stepped). ComesBehind bound s x before reached after) (sym is) on
 
 pub behind_stopped : (bound : ℕ) (s : ScopedStatement) (before : Locals) (reached : Reached) (stepped : Stepped) → stepped ≡ stopped reached → ComesBehind bound s stepped before reached before
-behind_stopped bound s before reached stepped is = subst (λ (x : Stepped). ComesBehind bound s x before reached before) (sym is) (record { same = λ p n depth. alike_same _ before })
+behind_stopped bound s before reached stepped is = subst (λ (x : Stepped). ComesBehind bound s x before reached before) (sym is) (record { same = λ p n depth. alike_same _ before; near = λ left h. h })
 
 -- ---- one step
 
@@ -225,28 +255,50 @@ step_moves bound s station v flow before after move is left p n depth =
     let two = subst (λ (m : StationMove). Alike (station_trace calls bound s station v flow) before (station_moved calls bound s m) (station_leaves s station v before)) (sym is) one in
     subst (λ (t : Locals). Alike (station_trace calls bound s station v flow) before (station_moved calls bound s move) t) (sym left) two
 
+falls_by : (bound : ℕ) (s : ScopedStatement) (station : Station) (v : ℕ) (flow : Flow) (move : StationMove) → move ≡ station_move bound s station v flow → FallsTo bound s (station_rank bound s station) move
+falls_by bound s station v flow move is = subst (λ (m : StationMove). FallsTo bound s (station_rank bound s station) m) (sym is) (station_falls bound s station v flow)
+
+-- a station with a lower rank
+lower_near : (bound : ℕ) (s : ScopedStatement) (q r : ℕ) → q < r → q * suc (inner_most bound s) ≤ r * suc (inner_most bound s)
+lower_near bound s q r low = mul-le q (suc (inner_most bound s)) r (suc (inner_most bound s)) (omega (arith, low)) (omega arith)
+
+step_lower : (bound : ℕ) (s : ScopedStatement) (q r : ℕ) (stepped : Stepped) → StepNears bound s (suc q * suc (inner_most bound s)) stepped → q < r → StepNears bound s (r * suc (inner_most bound s)) stepped
+step_lower bound s q r stepped h low =
+    step_more bound s (suc q * suc (inner_most bound s)) (r * suc (inner_most bound s)) stepped h (mul-le (suc q) (suc (inner_most bound s)) r (suc (inner_most bound s)) low (omega arith))
+
 pub step_on : (bound : ℕ) (s : ScopedStatement) (station next : Station) (v : ℕ) (flow : Flow) (before after : Locals) → moves_on next ≡ station_move bound s station v flow → after ≡ station_leaves s station v before
     → Steps bound s station v flow before (again next 0 normal) after
-step_on bound s station next v flow before after is left = record { same = λ p n depth. step_moves bound s station v flow before after (moves_on next) is left p n depth }
+step_on bound s station next v flow before after is left =
+    record {
+      same = λ p n depth. step_moves bound s station v flow before after (moves_on next) is left p n depth;
+      near = lower_near bound s (station_rank bound s next) (station_rank bound s station) (falls_by bound s station v flow (moves_on next) is);
+    }
 
 pub step_reaches : (bound : ℕ) (s : ScopedStatement) (station : Station) (v : ℕ) (flow : Flow) (before after : Locals) (reached : Reached) → reaches reached ≡ station_move bound s station v flow → after ≡ station_leaves s station v before
     → Steps bound s station v flow before (stopped reached) after
-step_reaches bound s station v flow before after reached is left = record { same = λ p n depth. step_moves bound s station v flow before after (reaches reached) is left p n depth }
+step_reaches bound s station v flow before after reached is left =
+    record {
+      same = λ p n depth. step_moves bound s station v flow before after (reaches reached) is left p n depth;
+      near = still_nears bound s (station_rank bound s station * suc (inner_most bound s)) reached (falls_by bound s station v flow (reaches reached) is);
+    }
 
 pub step_value : (bound : ℕ) (s : ScopedStatement) (station next : Station) (v : ℕ) (flow : Flow) (before middle after : Locals) (stepped : Stepped) → enters_value next ≡ station_move bound s station v flow → middle ≡ station_leaves s station v before
     → EnteredValue s next middle stepped after → Steps bound s station v flow before stepped after
 step_value bound s station next v flow before middle after stepped is left inner =
-    record { same = λ p n depth. alike_alike (step_moves bound s station v flow before middle (enters_value next) is left p n depth) (inner.same p n bound depth) }
+    record {
+      same = λ p n depth. alike_alike (step_moves bound s station v flow before middle (enters_value next) is left p n depth) (inner.same p n bound depth);
+      near = step_lower bound s (station_rank bound s next) (station_rank bound s station) stepped (inner.near bound) (falls_by bound s station v flow (enters_value next) is);
+    }
 
 pub step_part : (bound : ℕ) (s : ScopedStatement) (station next : Station) (v : ℕ) (flow : Flow) (before middle after : Locals) (stepped : Stepped) → enters_part next ≡ station_move bound s station v flow → middle ≡ station_leaves s station v before
     → EnteredPart bound s next middle stepped after → Steps bound s station v flow before stepped after
 step_part bound s station next v flow before middle after stepped is left inner =
-    record { same = λ p n depth. alike_alike (step_moves bound s station v flow before middle (enters_part next) is left p n depth) (inner.same p n depth) }
+    record {
+      same = λ p n depth. alike_alike (step_moves bound s station v flow before middle (enters_part next) is left p n depth) (inner.same p n depth);
+      near = step_lower bound s (station_rank bound s next) (station_rank bound s station) stepped inner.near (falls_by bound s station v flow (enters_part next) is);
+    }
 
 -- ---- nearer to the last station
-
-falls_by : (bound : ℕ) (s : ScopedStatement) (station : Station) (v : ℕ) (flow : Flow) (move : StationMove) → move ≡ station_move bound s station v flow → FallsTo bound s (station_rank bound s station) move
-falls_by bound s station v flow move is = subst (λ (m : StationMove). FallsTo bound s (station_rank bound s station) m) (sym is) (station_falls bound s station v flow)
 
 pub on_down : (bound : ℕ) (s : ScopedStatement) (station next : Station) (v : ℕ) (flow : Flow) → moves_on next ≡ station_move bound s station v flow → GoesDown bound s (station_rank bound s station) (again next 0 normal)
 on_down bound s station next v flow is = falls_by bound s station v flow (moves_on next) is
@@ -270,15 +322,23 @@ again_down bound s station next v flow stepped is down = subst (λ (x : Stepped)
 -- ---- step by step
 
 pub steps_first : (bound : ℕ) (s : ScopedStatement) (station : Station) (v : ℕ) (flow : Flow) (before : Locals) → Steps bound s station v flow before (again station v flow) before
-steps_first bound s station v flow before = record { same = λ p n depth. alike_same _ before }
+steps_first bound s station v flow before = record { same = λ p n depth. alike_same _ before; near = omega arith }
+
+steps_steps : (bound : ℕ) (s : ScopedStatement) (station now : Station) (v w : ℕ) (flow way : Flow) (before middle after : Locals) (stepped : Stepped)
+    → Steps bound s station v flow before (again now w way) middle → Steps bound s now w way middle stepped after → Steps bound s station v flow before stepped after
+steps_steps bound s station now v w flow way before middle after stepped one two =
+    record {
+      same = λ p n depth. alike_alike (one.same p n depth) (two.same p n depth);
+      near = step_more bound s (station_rank bound s now * suc (inner_most bound s)) (station_rank bound s station * suc (inner_most bound s)) stepped two.near one.near;
+    }
 
 pub steps_next : (bound : ℕ) (s : ScopedStatement) (station now next : Station) (v w u : ℕ) (flow way onward : Flow) (before middle after : Locals) (stepped : Stepped)
     → Steps bound s station v flow before (again now w way) middle → Steps bound s now w way middle stepped after → stepped ≡ again next u onward → Steps bound s station v flow before (again next u onward) after
 steps_next bound s station now next v w u flow way onward before middle after stepped one two is =
-    subst (λ (x : Stepped). Steps bound s station v flow before x after) is (record { same = λ p n depth. alike_alike (one.same p n depth) (two.same p n depth) })
+    subst (λ (x : Stepped). Steps bound s station v flow before x after) is (steps_steps bound s station now v w flow way before middle after stepped one two)
 
 pub steps_come : (bound : ℕ) (s : ScopedStatement) (station now : Station) (v w : ℕ) (flow way : Flow) (before middle after : Locals) (reached : Reached) (stepped : Stepped)
     → Steps bound s station v flow before (again now w way) middle → Steps bound s now w way middle stepped after → stepped ≡ stopped reached → ComesBehind bound s (again station v flow) before reached after
 steps_come bound s station now v w flow way before middle after reached stepped one two is =
-    let whole : Steps bound s station v flow before (stopped reached) after = subst (λ (x : Stepped). Steps bound s station v flow before x after) is (record { same = λ p n depth. alike_alike (one.same p n depth) (two.same p n depth) }) in
-    record { same = λ p n depth. whole.same p n depth }
+    let whole : Steps bound s station v flow before (stopped reached) after = subst (λ (x : Stepped). Steps bound s station v flow before x after) is (steps_steps bound s station now v w flow way before middle after stepped one two) in
+    record { same = λ p n depth. whole.same p n depth; near = λ left low. reached_more bound s (station_rank bound s station * suc (inner_most bound s)) left reached whole.near low }

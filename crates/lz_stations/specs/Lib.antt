@@ -1,4 +1,5 @@
 pub mod StatementFits
+pub mod StatementNears
 pub mod StatementSizes
 pub mod StationMoves
 pub mod StationRanks
