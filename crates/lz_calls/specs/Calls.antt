@@ -1,5 +1,6 @@
--- Trusted: which functions a program calls, what can be reached through calls, how high bodies are together with those
--- that they call, and so which rules a program breaks (C99 6.5.2.2).
+-- Trusted: which functions bodies call, what is reached through calls, how high bodies are with those that they call, and the facts of each function (C99 6.5.2.2).
+-- A body calls a function by the text, whatever its tests say; calls reach what any number of them leads to; a body is as high as
+-- it is with the functions that it calls and that do not come back to it; the rules on the whole file look up the facts.
 use Rattle.std.specs.Prelude.{◌≡◌, ℕ, zero, suc, ◌+◌, ◌<◌, ◌==◌, max, nat_lt, Bool, true, false, not, IsTrue, ◌↔◌, ◌&&◌, ◌||◌, List, [], ◌∷◌, ◌++◌, map, length, Option, Some, None, if◌then◌else◌, slice_get, Result, Ok, Err}
 use Rattle.std.specs.List.{Contains, filter}
 use Rattle.lz_tree.specs.declared.scoped.Object.{Object}
@@ -10,30 +11,30 @@ use Rattle.lz_scopes.specs.Files.{Facts, or_false, row_has}
 
 -- ---- calls
 
--- for each function those that its body calls
+-- for each function those that are called anywhere in its body
 abbrev pub graph_of : List ScopedDefinition → List (List ℕ)
 graph_of functions = map (λ f. statement_calls f.body) functions
 
--- ---- what can be reached
+-- ---- what is reached
 
 abbrev pub row : Option (List ℕ) → List ℕ
 row None = []
 row (Some called) = called
 
--- a function calls another
+-- the body of a function has a call of another
 abbrev pub Calls : List (List ℕ) → ℕ → ℕ → Type 0
 Calls graph f g = Contains (row (slice_get graph f)) g
 
--- a function can come to another by so many calls
+-- from a function so many calls, each in the body of the function that the one before leads to, lead to another
 abbrev pub Path : List (List ℕ) → ℕ → ℕ → ℕ → Type 0
 Path graph f g zero = f ≡ g
 Path graph f g (suc n) = (via : ℕ) × Path graph f via n × Calls graph via g
 
--- a function can reach another, or is it
+-- some number of such calls leads from a function to another; none leads to itself
 abbrev pub Reaches : List (List ℕ) → ℕ → ℕ → Type 0
 Reaches graph f g = (n : ℕ) × Path graph f g n
 
--- it is a start routine
+-- the function has the form of a start routine
 abbrev pub IsStart : List ScopedDefinition → ℕ → Type 0
 IsStart functions f = (d : ScopedDefinition) × (slice_get functions f ≡ Some d) × (d.start ≡ true)
 
@@ -140,7 +141,7 @@ pub record AreFacts (functions : List ScopedDefinition) (facts : Facts) : Type 0
   pub rows : (f : ℕ) → f < length functions
       → slice_get facts.returning f
       ≡ Some (filter (λ g. row_has (slice_get facts.returning f) g) (row (slice_get (graph_of functions) f)))
-  -- a start routine can reach it, or it is one
+  -- it is reached from a start routine, or is one
   pub reached : (f : ℕ) → f < length functions
       → IsTrue (or_false (slice_get facts.reached f)) ↔ ((s : ℕ) × IsStart functions s × Reaches (graph_of functions) s f)
   -- its body is too high

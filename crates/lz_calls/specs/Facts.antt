@@ -1,4 +1,4 @@
--- Trusted: what the code's facts say, and where there is an order of the functions.
+-- Inner: what the code's facts say, and where there is an order of the functions.
 use Rattle.std.specs.Prelude.{◌≡◌, ℕ, ◌<◌, List, length, map, Option, Some, None, Vec}
 use Rattle.std.specs.declared.alloc.Global.{Global}
 use Rattle.lz_tree.specs.ScopedTrees.{ScopedDefinition}

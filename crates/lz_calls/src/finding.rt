@@ -6,7 +6,7 @@ ghost use Rattle.lz_calls.specs.Facts.{AreStarts, IsOrderOf, facts_of};
 
 use crate::heights::heights;
 use crate::listing::graph;
-use crate::ranks::{is_falling, rank_at, rank_order, returning_row};
+use crate::ranks::{rank_at, rank_order, returning_row};
 use crate::reaching::{reach, row};
 use crate::walking::ranks_of;
 use lz_base::{Memory, Sequence};
@@ -104,15 +104,14 @@ pub fn facts(alloc: Global, functions: &[ScopedFunction]) -> Result<CallFacts, M
 {
     let count = count_of(functions)?;
     let graph = graph(alloc, functions)?;
-    let ranks = ranks_of(alloc, &graph, count)?;
-    let order = rank_order(alloc, &ranks, count)?;
-    let heights = heights(alloc, functions, &ranks, &order)?;
-    let returning = returning_rows(alloc, &graph, &ranks, count)?;
+    let ranking = ranks_of(alloc, &graph, count)?;
+    let order = rank_order(alloc, &ranking.ranks, count)?;
+    let heights = heights(alloc, functions, &ranking.ranks, &order)?;
+    let returning = returning_rows(alloc, &graph, &ranking.ranks, count)?;
     let starts = starts_of(alloc, functions, count)?;
     let reached = reach(alloc, &graph, &starts)?;
     let high = high_of(alloc, &heights)?;
-    let falling = is_falling(&graph, &ranks, count);
-    let order = kept(order, falling);
+    let order = kept(order, ranking.falling);
     Ok(CallFacts {
         returning,
         reached,

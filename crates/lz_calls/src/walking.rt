@@ -1,5 +1,5 @@
-ghost use Rattle.std.specs.Prelude.{◌≡◌, ◌<◌, ◌↔◌, IsTrue, EachIndex, true, length, slice_index, IfOk};
-ghost use Rattle.lz_calls.specs.Ranks.{IsRanking};
+ghost use Rattle.std.specs.Prelude.{◌≡◌, ◌<◌, ◌↔◌, IsTrue, EachIndex, true, false, length, slice_index, IfOk};
+ghost use Rattle.lz_calls.specs.Ranks.{IsFalling, IsRanking};
 
 use crate::ranks::{is_falling, ranks_by_reach};
 use crate::reaching::row;
@@ -84,10 +84,20 @@ fn are_positive(ranks: &[u64]) -> bool
     ranks.iter().all(|rank| 0 < *rank)
 }
 
+/// Ranks of the functions, and whether each call leads to a function of lower rank.
+#[derive(Drop)]
+pub struct Ranking {
+    /// For each function its rank.
+    pub ranks: Vec<u64>,
+    /// Whether no call comes back, and each leads to a function.
+    pub falling: bool,
+}
+
 /// Whether each function has a rank, and each call leads to a lower one. Looks at each call once.
 fn serves(graph: &[Sequence<u32>], ranks: &[u64], count: u32) -> bool
     requires { count ≡ length graph.now }
-    ensures { result ≡ true → IsRanking graph.now ranks.now }
+    ensures ranking { result ≡ true → IsRanking graph.now ranks.now }
+    ensures falling { result ≡ true → IsFalling graph.now ranks.now count count }
 {
     if ranks.len() != graph.len() {
         return false;
@@ -98,16 +108,34 @@ fn serves(graph: &[Sequence<u32>], ranks: &[u64], count: u32) -> bool
     is_falling(graph, ranks, count)
 }
 
-/// Ranks of the functions. Where no call comes back and each leads to a function, each call is looked at twice. Else
-/// there is a search from each function, in a time that grows as the functions times the functions and calls: of the
-/// programs whose calls lead to functions that is so for those with recursion alone, which a rule refuses.
-pub fn ranks_of(alloc: Global, graph: &[Sequence<u32>], count: u32) -> Result<Vec<u64>, Memory>
+/// Ranks by a search from each function.
+fn ranking_by_reach(alloc: Global, graph: &[Sequence<u32>], count: u32) -> Result<Ranking, Memory>
     requires { count ≡ length graph.now }
-    ensures { IfOk result (λ ranks. IsRanking graph.now ranks.items) }
+    ensures ranks { IfOk result (λ r. IsRanking graph.now r.ranks.items) }
+    ensures yes { IfOk result (λ r. r.falling ≡ true → IsFalling graph.now r.ranks.items count count) }
+    ensures no { IfOk result (λ r. r.falling ≡ false → IsFalling graph.now r.ranks.items count count → ⊥) }
+{
+    let ranks = ranks_by_reach(alloc, graph, count)?;
+    let falling = is_falling(graph, &ranks, count);
+    Ok(Ranking { ranks, falling })
+}
+
+/// Ranks of the functions, and whether they fall along each call. Where no call comes back and each leads to a
+/// function, each call is looked at twice. Else there is a search from each function, in a time that grows as the
+/// functions times the functions and calls: of the programs whose calls lead to functions that is so for those with
+/// recursion alone, which a rule refuses.
+pub fn ranks_of(alloc: Global, graph: &[Sequence<u32>], count: u32) -> Result<Ranking, Memory>
+    requires { count ≡ length graph.now }
+    ensures ranks { IfOk result (λ r. IsRanking graph.now r.ranks.items) }
+    ensures yes { IfOk result (λ r. r.falling ≡ true → IsFalling graph.now r.ranks.items count count) }
+    ensures no { IfOk result (λ r. r.falling ≡ false → IsFalling graph.now r.ranks.items count count → ⊥) }
 {
     let ranks = ranks_by_walk(alloc, graph, count)?;
     if serves(graph, &ranks, count) {
-        return Ok(ranks);
+        return Ok(Ranking {
+            ranks,
+            falling: true,
+        });
     }
-    ranks_by_reach(alloc, graph, count)
+    ranking_by_reach(alloc, graph, count)
 }

@@ -25,7 +25,7 @@ pub record IsAccepted (bytes : List ℕ) (tree : TranslationUnit) : Type 0 where
   pub of : HasTree bytes tree
   pub faultless : AreFaults tree []
 
--- The bytes have a tree that breaks no rule, and can create more threads within the bounds than the limit; so many, or
+-- The bytes have a tree that breaks no rule, and whose slots within the bounds are more than the limit; so many, or
 -- the greatest number of 64 bits where there are more.
 pub record HasManySlots (bounds : Bounds) (bytes : List ℕ) (told : ℕ) : Type 0 where
   pub tree : TranslationUnit

@@ -1,5 +1,5 @@
--- Inner: the weight of flat and straight programs, a sum of numbers from one table. A number bounds the
--- variables that its operator, its statement or its instruction takes in the formula.
+-- Inner: the weight of flat and straight programs, a sum of numbers from one table.
+-- A number bounds the variables that its operator, its statement or its instruction takes in the formula.
 use Rattle.std.specs.Prelude.{ℕ, ◌+◌, ◌*◌, ◌/◌, nat_le, Bool, true, false, List, [], ◌∷◌, if◌then◌else◌}
 use Rattle.lz_base.specs.declared.operator.Unary.{Unary}
 use Rattle.lz_base.specs.declared.operator.Unary.TheVariants.{Plus, Minus, Invert, Not}

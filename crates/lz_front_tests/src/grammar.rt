@@ -45,6 +45,7 @@ fn type_shape(of: TypeName) -> &'static str {
     match of {
         TypeName::Int => "N",
         TypeName::UnsignedLongLongInt => "ULLN",
+        TypeName::UnsignedShortInt => "UHN",
         TypeName::Void => "V",
         TypeName::VoidPointer => "V*",
         TypeName::Thread => "T",
@@ -317,6 +318,7 @@ fn declarations(rt: HostRuntime) -> Result<(), Fail> {
         ("Na;", "(1N 2a[-]) 3", "one object"),
         ("Na,b,c;", "(1N 2a[-] 4b[-] 6c[-]) 7", "three of one type"),
         ("ULLNa;", "(1ULLN 5a[-]) 6", "a type of four words"),
+        ("UHNa;", "(1UHN 4a[-]) 5", "a type of three words"),
         ("V*a;", "(1V* 3a[-]) 4", "a pointer"),
         ("Va;", "(1V 2a[-]) 3", "a type that the rules refuse"),
         ("Na[1];", "(1N 2a[1]) 6", "an array"),

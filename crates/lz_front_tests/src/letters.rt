@@ -68,6 +68,7 @@ fn token_of(letter: u8) -> TokenKind {
         b'N' => Keyword::Int,
         b'U' => Keyword::Unsigned,
         b'L' => Keyword::Long,
+        b'H' => Keyword::Short,
         b'V' => Keyword::Void,
         b'O' => Keyword::Null,
         b'T' => Keyword::Thread,

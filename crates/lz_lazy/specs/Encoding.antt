@@ -1,5 +1,6 @@
--- Inner: the straight program of a flat one. Behind the words of the program stand the guess, the flag that
--- the next instruction runs, and the saved place of each thread.
+-- Inner: the straight program of a flat one.
+-- Behind the words of the program stand the guess, the flag that the next instruction runs, and the saved place of
+-- each thread.
 use Rattle.std.specs.Prelude.{ℕ, zero, suc, ◌+◌, ◌*◌, nat_le, Bool, true, false, List, [], ◌∷◌, ◌++◌, length, replicate, if◌then◌else◌}
 use Rattle.lz_base.specs.declared.operator.Binary.TheVariants.{Lt, Le, Eq, BitAnd, Both}
 use Rattle.lz_base.specs.declared.word.IntType.TheVariants.{Unsigned}

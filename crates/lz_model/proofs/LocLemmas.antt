@@ -114,9 +114,6 @@ course_erased : (end : Course) → end ≢ stuck → (es : List Event) (s : Stat
 course_erased end on [] s h = h
 course_erased end on (e ∷ rest) s h = course_step e rest s end (is_loc e.action) refl on (λ s2. course_erased end on rest s2) h
 
-not_stuck : (kind : BreakKind) (line : ℕ) (c : Course) → c ≡ broken kind line → c ≢ stuck
-not_stuck kind line c e h = let z : broken kind line ≡ stuck = sym e ∙ h in cc
-
 seen_part : (process : Process) (o : Option Start) (acts : List Act) → MayDo process o acts → MayDo (bare process) o (without_loc acts)
 seen_part process None acts h = ap without_loc h
 seen_part process (Some start) acts h = record { full = acts; does = h; seen = refl }
@@ -199,10 +196,10 @@ locs_erased t es [] all = refl
 locs_erased t es (a ∷ acts) all = rw all.0 (locs_erased t es acts all.1)
 
 -- a run of which this one is what is seen, from a state and what is left of each thread's actions
-record Filled (es : List Event) (rests : ℕ → List Act) (s : State) (kind : BreakKind) (line : ℕ) : Type 0 where
+record Filled (es : List Event) (rests : ℕ → List Act) (s : State) (end : Course) : Type 0 where
   full : List Event
   fits : Fits (threads full) (threads es)
-  ends : course full s ≡ broken kind line
+  ends : course full s ≡ end
   fronts : (u : ℕ) → (tail : List Act) × (rests u ≡ part u full ++ tail)
   starts : (u : ℕ) → start_of u full ≡ start_of u es
   seen : events_without_loc full ≡ es
@@ -231,12 +228,12 @@ left_of t u d rest rests es left true e are = left ∙ ap (λ (v : ℕ). part v 
 left_of t u d rest rests es left false e are = are ∙ part_of_event t u d es false e
 
 -- by what the event comes to
-fill_by : (t : ℕ) (d : Act) (es : List Event) (rests : ℕ → List Act) (s : State) (kind : BreakKind) (line : ℕ) (found : Found (rests t) d (part t es)) (r : Acted) → act s t d.action ≡ r
-    → course_after r d.line es (course es) ≡ broken kind line
-    → ((s2 : State) → course es s2 ≡ broken kind line → Filled es (behind_event t found.rest rests) s2 kind line)
-    → Filled (event_of t d ∷ es) rests s kind line
+fill_by : (t : ℕ) (d : Act) (es : List Event) (rests : ℕ → List Act) (s : State) (end : Course) → end ≢ stuck → (found : Found (rests t) d (part t es)) (r : Acted) → act s t d.action ≡ r
+    → course_after r d.line es (course es) ≡ end
+    → ((s2 : State) → course es s2 ≡ end → Filled es (behind_event t found.rest rests) s2 end)
+    → Filled (event_of t d ∷ es) rests s end
 unfolding behind_event threads
-fill_by t d es rests s kind line found (went s2) a e later =
+fill_by t d es rests s end on found (went s2) a e later =
     let filled = later s2 e in
     let can : act s t d.action ≢ blocked = λ w. let z : went s2 ≡ blocked = sym a ∙ w in cc in
     record {
@@ -250,8 +247,8 @@ fill_by t d es rests s kind line found (went s2) a e later =
   where
     kept : (ts : List ℕ) → Fits ts (threads es) → Fits (t ∷ ts) (t ∷ threads es)
     kept ts f = stay (next f)
-fill_by t d es rests s kind line found blocked a e later = absurd cc
-fill_by t d [] rests s kind line found (broke k) a e later =
+fill_by t d es rests s end on found blocked a e later = absurd (on (sym e))
+fill_by t d [] rests s end on found (broke k) a e later =
     let can : act s t d.action ≢ blocked = λ w. let z : broke k ≡ blocked = sym a ∙ w in cc in
     record {
       full = with_locs t found.locs (event_of t d ∷ []);
@@ -264,15 +261,15 @@ fill_by t d [] rests s kind line found (broke k) a e later =
   where
     whole : (u : ℕ) (c : Bool) → (tail : List Act) × (cond c found.rest (rests u) ≡ part u [] ++ tail)
     whole u c = (cond c found.rest (rests u), refl)
-fill_by t d (f ∷ es) rests s kind line found (broke k) a e later = absurd cc
+fill_by t d (f ∷ es) rests s end on found (broke k) a e later = absurd (on (sym e))
 
-fill : (kind : BreakKind) (line : ℕ) (es : List Event) (rests : ℕ → List Act) (s : State) → ((u : ℕ) → without_loc (rests u) ≡ part u es) → course es s ≡ broken kind line → Filled es rests s kind line
-unfolding behind_event
-fill kind line [] rests s are e = absurd cc
-fill kind line (event ∷ es) rests s are e =
+fill : (end : Course) → end ≢ stuck → (es : List Event) (rests : ℕ → List Act) (s : State) → ((u : ℕ) → without_loc (rests u) ≡ part u es) → course es s ≡ end → Filled es rests s end
+unfolding behind_event threads
+fill end on [] rests s are e = record { full = []; fits = nothing; ends = e; fronts = λ u. (rests u, refl); starts = λ u. refl; seen = refl }
+fill end on (event ∷ es) rests s are e =
     let found = find (rests event.thread) (act_of event) (part event.thread es) (are event.thread ∙ part_of_event event.thread event.thread (act_of event) es true (self event.thread)) in
-    fill_by event.thread (act_of event) es rests s kind line found (act s event.thread event.action) refl e
-    (λ s2 h. fill kind line es (behind_event event.thread found.rest rests) s2
+    fill_by event.thread (act_of event) es rests s end on found (act s event.thread event.action) refl e
+    (λ s2 h. fill end on es (behind_event event.thread found.rest rests) s2
     (λ u. left_of event.thread u (act_of event) found.rest rests es found.left (eqb event.thread u) refl (are u)) h)
   where
     self : (t : ℕ) → eqb t t ≡ true
@@ -299,27 +296,30 @@ open_front process p None acts more h = nil_left acts more h
     nil_left (a ∷ acts) more e = absurd cc
 open_front process p (Some start) acts more h = p.started start.routine start.argument acts more h
 
--- a run of the process, of which this run of the bare process is what is seen, in as many rounds at most
-pub record IsFull (process : Process) (es : List Event) (kind : BreakKind) (line : ℕ) : Type 0 where
+-- a run of the process, of which this run of the bare process is what is seen: it leads to the same, in as many rounds
+-- at most
+pub record IsFullRun (process : Process) (es : List Event) : Type 0 where
   pub full : List Event
-  pub broken_ : IsBrokenRun process full kind line
+  pub is : IsRun process full
+  pub same : course full process.begins ≡ course es process.begins
   pub seen : events_without_loc full ≡ es
   pub few : rounds_of_run full ≤ rounds_of_run es
 
-pub full_breaks : (process : Process) → IsOpen process → (es : List Event) (kind : BreakKind) (line : ℕ) → IsBrokenRun (bare process) es kind line → IsFull process es kind line
+pub full_run : (process : Process) → IsOpen process → (es : List Event) → IsRun (bare process) es → IsFullRun process es
 unfolding threads
-full_breaks process p es kind line is = record {
+full_run process p es is = record {
   full = filled.full;
-  broken_ = record { is = record { parts = parts; goes = not_stuck kind line (course filled.full process.begins) filled.ends }; breaks = filled.ends };
+  is = record { parts = parts; goes = λ h. is.goes (sym filled.ends ∙ h) };
+  same = filled.ends;
   seen = filled.seen;
   few = let d = fits_descents filled.fits in omega (arith, d);
 }
   where
     each : (thread : ℕ) → (full : List Act) × (MayDoIn process es thread full × (without_loc full ≡ part thread es))
-    each thread = fulls process es is.is.parts thread
+    each thread = fulls process es is.parts thread
 
-    filled : Filled es (λ u. (each u).0) process.begins kind line
-    filled = fill kind line es (λ u. (each u).0) process.begins (λ u. (each u).1.1) is.breaks
+    filled : Filled es (λ u. (each u).0) process.begins (course es process.begins)
+    filled = fill (course es process.begins) is.goes es (λ u. (each u).0) process.begins (λ u. (each u).1.1) refl
 
     parts : (thread : ℕ) → MayDoIn process filled.full thread (part thread filled.full)
     parts zero = p.main (part 0 filled.full) (filled.fronts 0).0 (subst (λ (acts : List Act). process.main acts) (filled.fronts 0).1 (each 0).1.0)
@@ -327,3 +327,19 @@ full_breaks process p es kind line is = record {
         open_front process p (start_of (suc thread) filled.full) (part (suc thread) filled.full) (filled.fronts (suc thread)).0
         (subst (λ (o : Option Start). MayDo process o (part (suc thread) filled.full ++ (filled.fronts (suc thread)).0)) (sym (filled.starts (suc thread)))
         (subst (λ (acts : List Act). MayDo process (start_of (suc thread) es) acts) (filled.fronts (suc thread)).1 (each (suc thread)).1.0))
+
+-- the same, of a run that breaks
+pub record IsFull (process : Process) (es : List Event) (kind : BreakKind) (line : ℕ) : Type 0 where
+  pub full : List Event
+  pub broken_ : IsBrokenRun process full kind line
+  pub seen : events_without_loc full ≡ es
+  pub few : rounds_of_run full ≤ rounds_of_run es
+
+pub full_breaks : (process : Process) → IsOpen process → (es : List Event) (kind : BreakKind) (line : ℕ) → IsBrokenRun (bare process) es kind line → IsFull process es kind line
+full_breaks process p es kind line is =
+    let run = full_run process p es is.is in
+    record { full = run.full; broken_ = record { is = run.is; breaks = run.same ∙ is.breaks }; seen = run.seen; few = run.few }
+
+-- where a run leads, it leads without Loc
+pub bare_course : (process : Process) (run : List Event) → IsRun process run → course (events_without_loc run) process.begins ≡ course run process.begins
+bare_course process run is = course_erased (course run process.begins) is.goes run process.begins refl

@@ -156,15 +156,15 @@ found_is true b s h = absurd (h refl)
 found_is false true s h = refl
 found_is false false s h = absurd (h refl)
 
-read_finds : (s : State) (t cell v : ℕ) → act s t (Rd cell v) ≢ blocked → v ≡ slice_index s.cells cell
+pub read_finds : (s : State) (t cell v : ℕ) → act s t (Rd cell v) ≢ blocked → v ≡ slice_index s.cells cell
 read_finds s t cell v h =
     eqb-true v (slice_index s.cells cell) (found_is (is_halted s t || (is_shared (Rd cell v) && held_by_another s.holder t)) (eqb v (slice_index s.cells cell)) s h)
 
-made_is : (s : State) (t d routine argument : ℕ) → act s t (Create d routine argument) ≢ blocked → d ≡ length s.threads
+pub made_is : (s : State) (t d routine argument : ℕ) → act s t (Create d routine argument) ≢ blocked → d ≡ length s.threads
 made_is s t d routine argument h =
     eqb-true d (length s.threads) (found_is (is_halted s t || (is_shared (Create d routine argument) && held_by_another s.holder t)) (eqb d (length s.threads)) _ h)
 
-woken_is : (number : ℕ) (v w : Option ℕ) → choice_of (Signal number v) ≡ choice_of (Signal number w) → v ≡ w
+pub woken_is : (number : ℕ) (v w : Option ℕ) → choice_of (Signal number v) ≡ choice_of (Signal number w) → v ≡ w
 woken_is number None None e = refl
 woken_is number None (Some w) e = let z : 0 ≡ w + 1 = cc in absurd (let n : ⊥ = omega (arith, z) in n)
 woken_is number (Some v) None e = let z : v + 1 ≡ 0 = cc in absurd (let n : ⊥ = omega (arith, z) in n)
@@ -187,9 +187,9 @@ settled s t a b f g c (makes line v w routine argument h e k) =
 
 -- ---- the start of a thread that is made
 
-record Started (thread : ℕ) (events : List Event) : Type 0 where
-  start : Start
-  is : start_of thread events ≡ Some start
+pub record Started (thread : ℕ) (events : List Event) : Type 0 where
+  pub start : Start
+  pub is : start_of thread events ≡ Some start
 
 keeps_start : (thread : ℕ) (first later : Option Start) (start : Start) → later ≡ Some start → (found : Start) × (start_or thread first later ≡ Some found)
 keeps_start thread None later start e = (start, e)
@@ -236,7 +236,7 @@ made_after e [] s later t (broke kind) a few made ih on = absurd cc
 made_after e (f ∷ rest) s later t (broke kind) a few made ih on = absurd cc
 
 -- a thread that is made where events lead was started by one of them
-made_started : (events : List Event) (s later : State) (t : ℕ) → length s.threads ≤ t → t < length later.threads → course events s ≡ going later → Started t events
+pub made_started : (events : List Event) (s later : State) (t : ℕ) → length s.threads ≤ t → t < length later.threads → course events s ≡ going later → Started t events
 made_started [] s later t few made on = let z : s ≡ later = cc in let k = ap (λ (x : State). length x.threads) z in absurd (let n : ⊥ = omega (arith, k) in n)
 made_started (e ∷ rest) s later t few made on =
     made_after e rest s later t (act s e.thread e.action) refl few made (λ s1 h g. made_started rest s1 later t h made g) on
@@ -272,7 +272,7 @@ alike_started process p start (Some one) (Some two) xs ys e k h l =
     let z : two ≡ one = cc in
     p.started one.routine one.argument xs ys h (subst (λ (x : Start). process.started x.routine x.argument ys) z l)
 
-is_made_here : (s : State) (t : ℕ) (a : Action) → act s t a ≢ blocked → t < length s.threads
+pub is_made_here : (s : State) (t : ℕ) (a : Action) → act s t a ≢ blocked → t < length s.threads
 is_made_here s t a h = by (ltb t (length s.threads)) refl
   where
     by : (c : Bool) → ltb t (length s.threads) ≡ c → t < length s.threads
@@ -289,14 +289,14 @@ alike_here process p zs xs ys s (suc t) on made is other =
     alike_started process p from.start (start_of (suc t) (zs ++ xs)) (start_of (suc t) (zs ++ ys)) (part (suc t) (zs ++ xs)) (part (suc t) (zs ++ ys))
     (start_of-append (suc t) zs xs from.start from.is) (start_of-append (suc t) zs ys from.start from.is) (is.parts (suc t)) (other.parts (suc t))
 
-part_first : (t : ℕ) (e : Event) (rest : List Event) → e.thread ≡ t → part t (e ∷ rest) ≡ act_of e ∷ part t rest
+pub part_first : (t : ℕ) (e : Event) (rest : List Event) → e.thread ≡ t → part t (e ∷ rest) ≡ act_of e ∷ part t rest
 part_first t e rest h = by (eqb e.thread t) refl
   where
     by : (c : Bool) → eqb e.thread t ≡ c → cond c (act_of e ∷ part t rest) (part t rest) ≡ act_of e ∷ part t rest
     by true k = refl
     by false k = absurd (let n : eqb e.thread t ≡ false → e.thread ≡ t → ⊥ = grind (arith, nat_tests) in n k h)
 
-goes_here : (e : Event) (rest : List Event) (s : State) → course (e ∷ rest) s ≢ stuck → act s e.thread e.action ≢ blocked
+pub goes_here : (e : Event) (rest : List Event) (s : State) → course (e ∷ rest) s ≢ stuck → act s e.thread e.action ≢ blocked
 goes_here e rest s h w = h (ap (λ (acted : Acted). course_after acted e.line rest (course rest)) w)
 
 same_event : (e f : Event) → e.thread ≡ f.thread → e.action ≡ f.action → e.line ≡ f.line → e ≡ f
@@ -320,7 +320,7 @@ same_next process p zs xs ys e f s on is other thread choice goes goes_too = eli
         (subst (λ (acts : List Act). Alike (part e.thread (zs ++ e ∷ xs)) acts) two (alike_here process p zs (e ∷ xs) (f ∷ ys) s e.thread on (is_made_here s e.thread e.action goes) is other))
 
 -- no event is Loc
-IsSeenAll : List Event → Type 0
+pub IsSeenAll : List Event → Type 0
 IsSeenAll [] = Unit {0}
 IsSeenAll (e ∷ rest) = (is_loc e.action ≡ false) × IsSeenAll rest
 
@@ -329,12 +329,12 @@ unfolding IsSeenAll
 seen_step e rest true h all = all
 seen_step e rest false h all = (h, all)
 
-all_seen : (run : List Event) → IsSeenAll (events_without_loc run)
+pub all_seen : (run : List Event) → IsSeenAll (events_without_loc run)
 unfolding IsSeenAll
 all_seen [] = tt
 all_seen (e ∷ run) = seen_step e (events_without_loc run) (is_loc e.action) refl (all_seen run)
 
-one_more_event : (zs : List Event) (e : Event) (rest : List Event) → zs ++ e ∷ rest ≡ (zs ++ e ∷ []) ++ rest
+pub one_more_event : (zs : List Event) (e : Event) (rest : List Event) → zs ++ e ∷ rest ≡ (zs ++ e ∷ []) ++ rest
 one_more_event zs e rest = sym (append_assoc zs (e ∷ []) rest)
 
 behind_goes : (zs : List Event) (e : Event) (s s1 begins : State) → course zs begins ≡ going s → act s e.thread e.action ≡ went s1 → course (zs ++ e ∷ []) begins ≡ going s1

@@ -40,7 +40,7 @@ has_choice HoldOn e = record { choice = 0; is = refl }
 has_choice HoldOff e = record { choice = 0; is = refl }
 has_choice (End w) e = record { choice = 0; is = refl }
 
-no_choice : (a : Action) → is_loc a ≡ true → choice_of a ≡ None
+pub no_choice : (a : Action) → is_loc a ≡ true → choice_of a ≡ None
 no_choice Loc e = refl
 no_choice (Input v) e = absurd cc
 no_choice (Check v kind) e = absurd cc

@@ -1,5 +1,5 @@
--- Trusted: traces of code, the lists of actions that it may do, in the order of C99 6.5 and 6.8 with operands and
--- arguments from left to right. A trace knows nothing of the shared state: a read may find any word.
+-- Trusted: traces of code, the lists of actions that it may do, in the order of C99 6.5 and 6.8 with operands and arguments from left to right.
+-- A trace knows nothing of the shared state: a read may find any word.
 use Rattle.std.specs.Prelude.{◌≡◌, ℕ, zero, suc, ◌+◌, ◌<◌, ◌==◌, Bool, true, false, nat_lt, List, [], ◌∷◌, Option, Some, None, slice_index, if◌then◌else◌, ⊤}
 use Rattle.lz_base.specs.Words.{value_bound, is_true, truth, unary_value, binary_value, converted}
 use Rattle.lz_base.specs.declared.word.BreakKind.{BreakKind}

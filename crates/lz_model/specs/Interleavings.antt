@@ -1,5 +1,5 @@
--- Trusted: runs, the interleavings of what threads may do, in which each event goes but the last, which may break
--- a check. A switch may come after any action.
+-- Trusted: runs, the interleavings of what threads may do, in which each event goes but the last, which may break a check.
+-- A switch may come after any action.
 use Rattle.std.specs.Prelude.{◌≡◌, ◌≢◌, ℕ, zero, suc, ◌==◌, List, [], ◌∷◌, Option, Some, None, if◌then◌else◌}
 use Rattle.lz_base.specs.declared.word.BreakKind.{BreakKind}
 use Rattle.lz_model.specs.declared.actions.Event.{Event}

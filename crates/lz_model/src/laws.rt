@@ -6,7 +6,7 @@ ghost use Rattle.lz_model.specs.declared.schedule.Step.{Step};
 ghost use Rattle.lz_model.specs.Actions.{Act};
 ghost use Rattle.lz_model.specs.LeftOut.{kept};
 ghost use Rattle.lz_model.specs.Rounds.{rounds_of, threads_of};
-ghost use Rattle.lz_model.specs.Interleavings.{IsRun};
+ghost use Rattle.lz_model.specs.Interleavings.{course, IsRun};
 ghost use Rattle.lz_model.specs.BrokenRuns.{IsBrokenRun, rounds_of_run, schedule_of, Follows};
 ghost use Rattle.lz_model.specs.WithoutLoc.{events_without_loc, bare};
 ghost use Rattle.lz_model.specs.Programs.{IsThreadTrace, process_of};
@@ -41,6 +41,12 @@ pub fn leaving_out_begins_no_round()
 pub fn broken_without_loc()
     ensures bare { (p : ScopedProgram) (n : ℕ) (run : List Event) (kind : BreakKind) (line : ℕ) → IsBrokenRun (process_of p n) run kind line → IsBrokenRun (bare (process_of p n)) (events_without_loc run) kind line }
     ensures full { (p : ScopedProgram) (n : ℕ) (run : List Event) (kind : BreakKind) (line : ℕ) → IsBrokenRun (bare (process_of p n)) run kind line → (full : List Event) × IsBrokenRun (process_of p n) full kind line × (events_without_loc full ≡ run) × (rounds_of_run full ≤ rounds_of_run run) }
+{}
+
+/// What runs with Loc left out runs with it, and the other way round: to the same end, and in no more rounds.
+pub fn runs_without_loc()
+    ensures bare { (p : ScopedProgram) (n : ℕ) (run : List Event) → IsRun (process_of p n) run → IsRun (bare (process_of p n)) (events_without_loc run) × (course (events_without_loc run) (process_of p n).begins ≡ course run (process_of p n).begins) }
+    ensures full { (p : ScopedProgram) (n : ℕ) (run : List Event) → IsRun (bare (process_of p n)) run → (full : List Event) × IsRun (process_of p n) full × (course full (process_of p n).begins ≡ course run (process_of p n).begins) × (events_without_loc full ≡ run) × (rounds_of_run full ≤ rounds_of_run run) }
 {}
 
 /// Two runs that follow one schedule agree, Loc left out: what a read finds and which thread is made the state settles,

@@ -8,7 +8,7 @@ use Rattle.lz_tree.specs.declared.token.Tokens.{Tokens}
 use Rattle.lz_tree.specs.Spelling.{SpellsExternals}
 use Rattle.lz_tree.specs.Trees.{ExternalDeclaration, TranslationUnit}
 use Rattle.lz_tree.specs.Height.{greatest, external_height}
-use Rattle.lz_tree.specs.WellFormed.{FitsExternal, IsWellFormed}
+use Rattle.lz_tree.specs.WellFormed.{FitsExternal, IsWellFormed, height_limit}
 use Rattle.lz_expr.specs.Fronts.{Viable}
 use Rattle.lz_expr.specs.Lines.{line_of}
 use Rattle.lz_expr.specs.Reading.{Outcome, gives, refused, and_then, ◌>>=◌, pure}
@@ -19,7 +19,7 @@ use Rattle.lz_expr.proofs.RowsLemmas.{Row, made, along, row_of}
 use Rattle.lz_expr.proofs.ManyLemmas.{many_text, exact_many}
 use Rattle.lz_expr.proofs.WholeLemmas.{unique, refused_there, found_there}
 use Rattle.lz_expr.proofs.TokensLemmas.{no_text}
-use Rattle.lz_parse.specs.Grammar.{begins_external, external, more_externals, externals, closed, program, height_limit, InExternal, InProgram}
+use Rattle.lz_parse.specs.Grammar.{begins_external, external, more_externals, externals, closed, program, InExternal, InProgram}
 use Rattle.lz_parse.specs.Programs.{IsProgram, BeginsProgram, IsRefusedAt, IsNoProgram}
 use Rattle.lz_parse.specs.Views.{IsNamedAt}
 use Rattle.lz_parse.proofs.ExternalsLemmas.{never, row_external, external_heads, external_begins}
@@ -184,11 +184,9 @@ abbrev Limited : List ExternalDeclaration → List Token → Type 0
 Limited = InProgram height_limit
 
 well_formed : (es : List ExternalDeclaration) (names : List (List ℕ)) (ts : List Token) → Limited es ts → IsWellFormed (record { externals = es; names = names })
-unfolding height_limit
 well_formed es names ts m = record { some = m.some; fits = m.fits; low = m.low }
 
 limited : (p : TranslationUnit) (ts : List Token) → IsWellFormed p → SpellsExternals p.externals ts → Limited p.externals ts
-unfolding height_limit
 limited p ts w s = record { some = w.some; low = w.low; fits = w.fits; spells = s }
 
 begins_to : (ts : List Token) → Viable Limited ts → BeginsProgram ts

@@ -156,10 +156,6 @@ closed es (c ∷ rest) = refused (suc (length rest))
 unfoldable pub program : ℕ → Reader Token (List ExternalDeclaration)
 program h ts = and_then (externals h ts) closed
 
--- the height that a program may have
-unfoldable pub height_limit : ℕ
-height_limit = 200
-
 -- ---- what spells external declarations of at most some height
 
 -- an external declaration

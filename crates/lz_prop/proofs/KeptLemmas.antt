@@ -1,18 +1,20 @@
 -- The parts keep what holds of them.
-use Rattle.std.proofs.Common.{◌≡◌, ◌≢◌, ℕ, zero, suc, ◌+◌, ◌-◌, ◌*◌, ◌<◌, ◌≤◌, ◌⊎◌, inl, inr, Bool, leb, ltb, List, [], ◌∷◌, ◌++◌, length, get_or, set, take, Some, None, IsSome, refl, sym, ◌∙◌, ap, subst, arith}
+use Rattle.std.proofs.Common.{◌≡◌, ◌≢◌, ℕ, zero, suc, ◌+◌, ◌-◌, ◌*◌, ◌<◌, ◌≤◌, inl, inr, Bool, leb, ltb, List, [], ◌∷◌, ◌++◌, length, get_or, set, take, Some, None, IsSome, refl, sym, ◌∙◌, ap, subst, arith}
 use Rattle.std.specs.List.{All, AllPairs, Contains}
 use Rattle.std.specs.Vec.{vec_capacity}
 use Rattle.std.proofs.lemmas.Bool.{cases_lt, leb-true, le-leb, lt-leb, lt-ltb, le-ltb}
-use Rattle.std.proofs.lemmas.List.{length-append, length-take-le, get_or-take, get_or-map, get_or_append_left, take-map, append-nil, append_assoc}
-use Rattle.std.proofs.lemmas.List.Elements.{All-push, All-cons, All-nil, All-append, All-contains, Contains-push, filter_agree, All-contains_itself}
+use Rattle.std.proofs.lemmas.List.{length-append, length-take-le, get_or-take, get_or-map, get_or_append_left, take-map, take-append-le, take-take, append-nil, append_assoc}
+use Rattle.std.proofs.lemmas.List.Elements.{All-push, All-cons, All-nil, All-append, All-contains, filter_agree, All-contains_itself}
 use Rattle.std.proofs.lemmas.Option.{slice_get-get_or}
 use Rattle.lz_cnf.specs.declared.clause.Lit.{Lit}
 use Rattle.lz_cnf.specs.Models.{variable_of, negated}
-use Rattle.lz_cnf.specs.Partial.{IsFalseLit, IsUnassigned, IsConsistent, IsFalseClause, IsOpen, IsQuiet, IsNamed}
+use Rattle.lz_cnf.specs.Partial.{IsUnassigned, IsConsistent, IsFalseClause, IsQuiet, IsNamed}
 use Rattle.lz_prop.specs.declared.inner.Inner.{Inner}
 use Rattle.lz_prop.specs.declared.store.Store.{Store}
+use Rattle.lz_prop.specs.declared.watch.Watch.{Watch}
 use Rattle.lz_prop.specs.Trail.{Entry, TrailState, IsTrail, RestsOn, Extends, literals, IsFalseNamed, HoldsClause, WasOpen, at_decision, decided, propagated, gone_back, with_clause}
-use Rattle.lz_prop.specs.Settled.{IsSettled, AreSettled}
+use Rattle.lz_prop.specs.Watchers.{guards_of}
+use Rattle.lz_prop.specs.Guarded.{Guards, AreGuarded, WereGuarded, AreFronts}
 use Rattle.lz_prop.specs.Parts.{entry_at, number_kept, IsTable, AreStarts}
 use Rattle.lz_prop.specs.Stored.{IsStore, clauses_of}
 use Rattle.lz_prop.specs.Kept.{IsKept, state_of}
@@ -22,9 +24,7 @@ use Rattle.lz_prop.proofs.EntryLemmas.{entries_fit, set_consistent}
 use Rattle.lz_prop.proofs.TrailLemmas.{apart_push, filter_all, added_is_trail, decided_is_trail, propagated_is_trail}
 use Rattle.lz_prop.proofs.BackLemmas.{back_is_front, back_is_trail, filter_twice, filter_shorter}
 use Rattle.lz_prop.proofs.TableLemmas.{literals-entries, length-entries, entries-put, others_vary, table_more, starts_more, starts_same}
-use Rattle.lz_prop.proofs.SettledLemmas.{settled_more, satisfied_is_open, stands_open, stands_false, left_unassigned, left_others}
-use Rattle.lz_prop.specs.Standing.{IsLeft, Stands}
-use Rattle.lz_prop.specs.declared.status.Status.TheVariants.{Open, AllFalse}
+use Rattle.lz_prop.proofs.GuardLemmas.{guards_more, are_more, are_kept, were_same, were_decided, fronts_decided, were_back, fronts_back}
 
 -- the literals of the entries are the order
 pub order_is : (t : Inner) → literals (state_of t).set ≡ t.table.order.items
@@ -65,12 +65,21 @@ order_room_for t lit kept free =
 pub number_fits : (t : Inner) (lit : Lit) → IsKept t → IsFree t lit → lit.0 < length t.table.truths.items
 number_fits t lit kept free = let a = kept.table.truths_long in let b = free.within in omega arith
 
+-- how many literals were true at a decision
+pub start_within : (t : Inner) (level : ℕ) → IsKept t → level < length t.starts.items → get_or t.starts.items level 0 ≤ length t.table.order.items
+start_within t level kept lt =
+    let told = kept.starts.told level lt in
+    let short = filter_shorter (λ (e : Entry). leb e.level level) (state_of t).set in
+    let long = set_long t in
+    omega arith
+
 -- ---- one literal is put
 
 -- what the code did to the table and what it left
 pub record IsPut (t u : Inner) (lit : Lit) (level reason : ℕ) : Type 0 where
   pub variables : u.variables ≡ t.variables
   pub store : u.store ≡ t.store
+  pub watch : u.watch ≡ t.watch
   pub truths : u.table.truths.items ≡ set t.table.truths.items lit.0 1
   pub levels : u.table.levels.items ≡ set t.table.levels.items (variable_of lit) level
   pub reasons : u.table.reasons.items ≡ set t.table.reasons.items (variable_of lit) reason
@@ -97,15 +106,23 @@ table_put t u lit level reason kept free is =
     rw (is.variables, is.truths, is.levels, is.reasons, is.order)
     (table_more t.variables t.table.truths.items t.table.levels.items t.table.reasons.items t.table.order.items lit level reason kept.table free.within free.unassigned)
 
-settled_put : (t u : Inner) (lit : Lit) (level reason : ℕ) → IsKept t → IsPut t u lit level reason → AreSettled (clauses_of u.store) u.table.order.items u.head u.seen
-settled_put t u lit level reason kept is =
-    let more : AreSettled (clauses_of t.store) (t.table.order.items ++ lit ∷ []) t.head t.seen = λ k d low lt.
-    settled_more t.table.order.items lit t.head (get_or (clauses_of t.store) k d) kept.head_within (kept.settled k d low lt) in
-    rw (is.store, is.order, is.head, is.seen) more
+-- the fronts of the order are as they were
+fronts_put : (t u : Inner) (lit : Lit) (level reason : ℕ) → IsPut t u lit level reason → (n : ℕ) → n ≤ length t.table.order.items → take n u.table.order.items ≡ take n t.table.order.items
+fronts_put t u lit level reason is n le = ap (take n) is.order ∙ take-append-le n t.table.order.items (lit ∷ []) le
 
--- the parts after a literal was put, given the trail and the starts of its levels
-put_kept : (t u : Inner) (lit : Lit) (level reason : ℕ) → IsKept t → IsFree t lit → IsPut t u lit level reason → IsTrail (state_of u) → AreStarts (state_of u).set u.starts.items → IsKept u
-put_kept t u lit level reason kept free is trail starts =
+guarded_put : (t u : Inner) (lit : Lit) (level reason : ℕ) → IsKept t → IsPut t u lit level reason → AreGuarded (clauses_of u.store) (guards_of u.watch) u.table.order.items (take u.head u.table.order.items)
+guarded_put t u lit level reason kept is =
+    rw (is.store, is.watch, is.order, is.head) (are_more (clauses_of t.store) (guards_of t.watch) t.table.order.items t.head lit kept.head_within kept.guarded)
+
+-- the parts after a literal was put, given the trail and what is kept of its levels
+pub record AreLevels (u : Inner) : Type 0 where
+  pub starts : AreStarts (state_of u).set u.starts.items
+  pub fronts : AreFronts u.starts.items u.fronts.items
+  pub were : WereGuarded (clauses_of u.store) (guards_of u.watch) u.table.order.items u.starts.items u.fronts.items
+  pub room : u.variables ≤ vec_capacity u.fronts
+
+put_kept : (t u : Inner) (lit : Lit) (level reason : ℕ) → IsKept t → IsFree t lit → IsPut t u lit level reason → IsTrail (state_of u) → AreLevels u → IsKept u
+put_kept t u lit level reason kept free is trail levels =
     let a = kept.head_within in let b = is.head in let c = ap length is.order ∙ length-append t.table.order.items (lit ∷ []) in
     let d = kept.few in let e = is.variables in
     let f = kept.order_room in let g = is.order_room in
@@ -113,15 +130,21 @@ put_kept t u lit level reason kept free is trail starts =
     record {
       trail = trail;
       store = subst IsStore (sym is.store) kept.store;
-      lasts_long = rw (is.store, is.variables) kept.lasts_long;
       table = table_put t u lit level reason kept free is;
-      starts = starts;
-      settled = settled_put t u lit level reason kept is;
+      starts = levels.starts;
+      fronts = levels.fronts;
+      listed = rw is.watch kept.listed;
+      firsts_long = rw (is.watch, is.variables) kept.firsts_long;
+      guards_long = rw (is.watch, is.seen) kept.guards_long;
+      guarded = guarded_put t u lit level reason kept is;
+      were = levels.were;
       head_within = omega arith;
       seen_within = rw (is.store, is.seen) kept.seen_within;
       few = omega arith;
       order_room = omega arith;
       starts_room = omega arith;
+      fronts_room = levels.room;
+      watchers_room = rw (is.store, is.watch) kept.watchers_room;
     }
 
 -- ---- a decision
@@ -132,16 +155,31 @@ state_decided t u lit kept free is starts =
     made is.variables (ap clauses_of is.store) (set_put t u lit (suc (length t.starts.items)) 0 kept free is)
     (let e = ap length starts in let l = length-append t.starts.items (length t.table.order.items ∷ []) in omega arith) is.spent
 
+-- what the code did to the levels
+pub record IsOpened (t u : Inner) : Type 0 where
+  pub starts : u.starts.items ≡ t.starts.items ++ length t.table.order.items ∷ []
+  pub fronts : u.fronts.items ≡ t.fronts.items ++ t.head ∷ []
+  pub fronts_room : vec_capacity u.fronts ≡ vec_capacity t.fronts
+
 pub decided_kept : (t u : Inner) (lit : Lit) → IsKept t → IsFree t lit → IsQuiet t.table.order.items (clauses_of t.store)
-    → IsPut t u lit (suc (length t.starts.items)) 0 → u.starts.items ≡ t.starts.items ++ length t.table.order.items ∷ [] → IsKept u
-decided_kept t u lit kept free quiet is starts =
+    → IsPut t u lit (suc (length t.starts.items)) 0 → IsOpened t u → IsKept u
+decided_kept t u lit kept free quiet is opened =
     let e : Entry = record { lit = lit; level = suc (length t.starts.items); reason = None } in
     let trail : IsTrail (decided (state_of t) lit) = decided_is_trail (state_of t) lit kept.trail free.within (free_in_set t lit free)
     (subst (λ (xs : List Lit). IsQuiet xs (clauses_of t.store)) (sym (order_is t)) quiet) in
     let more : AreStarts ((state_of t).set ++ e ∷ []) (t.starts.items ++ length (state_of t).set ∷ []) = starts_more (state_of t).set t.starts.items e kept.starts kept.trail.bounded refl in
+    let within : (k : ℕ) → k < length t.starts.items → get_or t.starts.items k 0 ≤ length t.table.order.items = λ k lt. start_within t k kept lt in
+    let were = were_decided (clauses_of t.store) (guards_of t.watch) t.table.order.items u.table.order.items t.starts.items t.fronts.items t.head kept.fronts within
+    (fronts_put t u lit (suc (length t.starts.items)) 0 is) kept.head_within kept.guarded kept.were in
+    let room = kept.fronts_room in let same_room = opened.fronts_room in let same = is.variables in
     put_kept t u lit (suc (length t.starts.items)) 0 kept free is
-    (subst IsTrail (sym (state_decided t u lit kept free is starts)) trail)
-    (rw (set_put t u lit (suc (length t.starts.items)) 0 kept free is, starts, sym (set_long t)) more)
+    (subst IsTrail (sym (state_decided t u lit kept free is opened.starts)) trail)
+    (record {
+      starts = rw (set_put t u lit (suc (length t.starts.items)) 0 kept free is, opened.starts, sym (set_long t)) more;
+      fronts = rw (opened.starts, opened.fronts) (fronts_decided t.starts.items t.fronts.items (length t.table.order.items) t.head kept.fronts kept.head_within);
+      were = rw (is.store, is.watch, opened.starts, opened.fronts) were;
+      room = omega arith;
+    })
 
 -- ---- a literal that follows
 
@@ -155,23 +193,30 @@ one_present e level same some = All-cons (λ x. (x.level ≡ level) × IsSome x.
 present_join : (level : ℕ) (a b : List Entry) → ArePresent level a → ArePresent level b → ArePresent level (a ++ b)
 present_join level a b p q = All-append (λ x. (x.level ≡ level) × IsSome x.reason) a b p q
 
-pub state_implied : (t u : Inner) (lit : Lit) (number : ℕ) → IsKept t → IsFree t lit → IsPut t u lit (length t.starts.items) (suc number) → u.starts ≡ t.starts
+pub state_implied : (t u : Inner) (lit : Lit) (number : ℕ) → IsKept t → IsFree t lit → IsPut t u lit (length t.starts.items) (suc number) → u.starts ≡ t.starts → u.fronts ≡ t.fronts
     → state_of u ≡ propagated (state_of t) lit (suc number)
-state_implied t u lit number kept free is starts =
+state_implied t u lit number kept free is starts fronts =
     made is.variables (ap clauses_of is.store) (set_put t u lit (length t.starts.items) (suc number) kept free is) (ap (λ v. length v.items) starts) is.spent
 
 pub implied_kept : (t u : Inner) (lit : Lit) (number : ℕ) → IsKept t → IsFree t lit → RestsOn (clauses_of t.store) (state_of t).set lit (suc number)
-    → IsPut t u lit (length t.starts.items) (suc number) → u.starts ≡ t.starts → IsKept u
-implied_kept t u lit number kept free rests is starts =
+    → IsPut t u lit (length t.starts.items) (suc number) → u.starts ≡ t.starts → u.fronts ≡ t.fronts → IsKept u
+implied_kept t u lit number kept free rests is starts fronts =
     let e : Entry = record { lit = lit; level = length t.starts.items; reason = Some (suc number) } in
     let trail : IsTrail (propagated (state_of t) lit (suc number)) = propagated_is_trail (state_of t) lit (suc number) kept.trail free.within (free_in_set t lit free) rests in
     let same : AreStarts ((state_of t).set ++ e ∷ []) t.starts.items = starts_same (state_of t).set t.starts.items e kept.starts refl in
     put_kept t u lit (length t.starts.items) (suc number) kept free is
-    (subst IsTrail (sym (state_implied t u lit number kept free is starts)) trail)
-    (rw (set_put t u lit (length t.starts.items) (suc number) kept free is, starts) same)
+    (subst IsTrail (sym (state_implied t u lit number kept free is starts fronts)) trail)
+    (record {
+      starts = rw (set_put t u lit (length t.starts.items) (suc number) kept free is, starts) same;
+      fronts = rw (starts, fronts) kept.fronts;
+      were = rw (is.store, is.watch, starts, fronts)
+          (were_same (clauses_of t.store) (guards_of t.watch) t.table.order.items u.table.order.items t.starts.items t.fronts.items kept.fronts (λ k lt. start_within t k kept lt)
+          (fronts_put t u lit (length t.starts.items) (suc number) is) kept.were);
+      room = rw (is.variables, fronts) kept.fronts_room;
+    })
 
-pub implied_further : (t u : Inner) (lit : Lit) (number : ℕ) → IsKept t → IsFree t lit → IsPut t u lit (length t.starts.items) (suc number) → u.starts ≡ t.starts → IsFurther t u
-implied_further t u lit number kept free is starts =
+pub implied_further : (t u : Inner) (lit : Lit) (number : ℕ) → IsKept t → IsFree t lit → IsPut t u lit (length t.starts.items) (suc number) → u.starts ≡ t.starts → u.fronts ≡ t.fronts → IsFurther t u
+implied_further t u lit number kept free is starts fronts =
     let e : Entry = record { lit = lit; level = length t.starts.items; reason = Some (suc number) } in
     let long = ap length is.order ∙ length-append t.table.order.items (lit ∷ []) in
     record {
@@ -187,7 +232,7 @@ implied_further t u lit number kept free is starts =
       spent = is.spent;
       longer = omega arith;
       same = λ k d lt. ap (λ (xs : List Lit). get_or xs k d) is.order ∙ get_or_append_left t.table.order.items (lit ∷ []) d k lt;
-      settled = λ head clause le h. subst (λ (xs : List Lit). IsSettled xs head clause) (sym is.order) (settled_more t.table.order.items lit head clause le h);
+      guards = λ head clause l le h. subst (λ (xs : List Lit). Guards xs (take head xs) clause l) (sym is.order) (guards_more t.table.order.items head lit clause l le h);
     }
 
 -- ---- turns of propagation, one after another
@@ -206,7 +251,7 @@ further_same t u state store spent table = record {
   spent = spent;
   longer = (let e = ap (λ x. length x.order.items) table in omega arith);
   same = λ k d lt. ap (λ x. get_or x.order.items k d) table;
-  settled = λ head clause le h. subst (λ (xs : List Lit). IsSettled xs head clause) (sym (ap (λ x. x.order.items) table)) h;
+  guards = λ head clause lit le h. subst (λ (xs : List Lit). Guards xs (take head xs) clause lit) (sym (ap (λ x. x.order.items) table)) h;
 }
 
 extends_join : (s t u : TrailState) → Extends s t → Extends t u → Extends s u
@@ -228,32 +273,33 @@ further_join s t u a b =
       spent = b.spent ∙ a.spent;
       longer = omega arith;
       same = λ k d lt. b.same k d (omega arith) ∙ a.same k d lt;
-      settled = λ head clause le h. b.settled head clause (omega arith) (a.settled head clause le h);
+      guards = λ head clause lit le h. b.guards head clause lit (omega arith) (a.guards head clause lit le h);
     }
 
 -- ---- the same by the number of the reason
 
 pub imply_kept : (t u : Inner) (lit : Lit) (number : ℕ) → IsKept t → IsFree t lit → RestsOn (clauses_of t.store) (state_of t).set lit number
-    → IsPut t u lit (length t.starts.items) number → u.starts ≡ t.starts → IsKept u
-imply_kept t u lit zero kept free rests is starts = absurd rests.named
-imply_kept t u lit (suc number) kept free rests is starts = implied_kept t u lit number kept free rests is starts
+    → IsPut t u lit (length t.starts.items) number → u.starts ≡ t.starts → u.fronts ≡ t.fronts → IsKept u
+imply_kept t u lit zero kept free rests is starts fronts = absurd rests.named
+imply_kept t u lit (suc number) kept free rests is starts fronts = implied_kept t u lit number kept free rests is starts fronts
 
 pub imply_further : (t u : Inner) (lit : Lit) (number : ℕ) → IsKept t → IsFree t lit → RestsOn (clauses_of t.store) (state_of t).set lit number
-    → IsPut t u lit (length t.starts.items) number → u.starts ≡ t.starts → IsFurther t u
-imply_further t u lit zero kept free rests is starts = absurd rests.named
-imply_further t u lit (suc number) kept free rests is starts = implied_further t u lit number kept free is starts
+    → IsPut t u lit (length t.starts.items) number → u.starts ≡ t.starts → u.fronts ≡ t.fronts → IsFurther t u
+imply_further t u lit zero kept free rests is starts fronts = absurd rests.named
+imply_further t u lit (suc number) kept free rests is starts fronts = implied_further t u lit number kept free is starts fronts
 
--- ---- a look at a clause
+-- ---- literals of clauses
 
 pub kept_consistent : (t : Inner) → IsKept t → IsConsistent t.table.order.items
 kept_consistent t kept = subst IsConsistent (order_is t) (set_consistent (state_of t) kept.trail)
 
--- a literal of a clause, by its numbers
+-- a literal of the trail's variables, by its numbers
 pub record IsNumbered (t : Inner) (lit : Lit) : Type 0 where
   pub number : lit.0 < length t.table.truths.items
   pub other : (negated lit).0 < length t.table.truths.items
-  pub last : lit.0 < length t.store.lasts.items
-  pub other_last : (negated lit).0 < length t.store.lasts.items
+  pub first : lit.0 < length t.watch.firsts.items
+  pub other_first : (negated lit).0 < length t.watch.firsts.items
+  pub level : variable_of lit < length t.table.levels.items
 
 half_below : (lit : Lit) (n m : ℕ) → m ≡ 2 * n → variable_of lit < n → lit.0 < m
 half_below lit n m long within = omega arith
@@ -261,46 +307,20 @@ half_below lit n m long within = omega arith
 pub numbered : (t : Inner) (lit : Lit) → IsKept t → variable_of lit < t.variables → IsNumbered t lit
 numbered t lit kept within =
     let long = kept.table.truths_long in
-    let lasts = kept.lasts_long in
+    let firsts = kept.firsts_long in
+    let levels = kept.table.levels_long in
     let same = variable_of-negated lit in
     let other : variable_of (negated lit) < t.variables = omega arith in
-    record { number = omega arith; other = half_below (negated lit) t.variables (length t.table.truths.items) long other; last = omega arith; other_last = half_below (negated lit) t.variables (length t.store.lasts.items) lasts other }
+    record {
+      number = omega arith;
+      other = half_below (negated lit) t.variables (length t.table.truths.items) long other;
+      first = omega arith;
+      other_first = half_below (negated lit) t.variables (length t.watch.firsts.items) firsts other;
+      level = omega arith;
+    }
 
 pub in_variables : (t : Inner) (at : ℕ) (d : List Lit) (lit : Lit) → IsKept t → at < length (clauses_of t.store) → Contains (get_or (clauses_of t.store) at d) lit → variable_of lit < t.variables
 in_variables t at d lit kept within has = All-contains (λ l. variable_of l < t.variables) (get_or (clauses_of t.store) at d) lit (kept.trail.formula at d within) has
-
-pub look_open : (t : Inner) (clause : List Lit) → IsKept t → Stands t.table.truths.items clause Open → IsOpen t.table.order.items clause
-look_open t clause kept stands = stands_open t.variables t.table.truths.items t.table.levels.items t.table.reasons.items t.table.order.items clause kept.table (kept_consistent t kept) stands
-
-pub look_false : (t : Inner) (clause : List Lit) → IsKept t → Stands t.table.truths.items clause AllFalse → IsFalseClause t.table.order.items clause
-look_false t clause kept stands = stands_false t.variables t.table.truths.items t.table.levels.items t.table.reasons.items t.table.order.items clause kept.table stands
-
-pub left_free : (t : Inner) (at : ℕ) (d : List Lit) (lit : Lit) → IsKept t → at < length (clauses_of t.store) → IsLeft t.table.truths.items (get_or (clauses_of t.store) at d) lit → IsFree t lit
-left_free t at d lit kept within left = record {
-  within = in_variables t at d lit kept within left.has;
-  unassigned = left_unassigned t.variables t.table.truths.items t.table.levels.items t.table.reasons.items t.table.order.items (get_or (clauses_of t.store) at d) lit kept.table left;
-}
-
-pub left_rests : (t : Inner) (at : ℕ) (d : List Lit) (lit : Lit) → IsKept t → at < length (clauses_of t.store) → IsLeft t.table.truths.items (get_or (clauses_of t.store) at d) lit
-    → RestsOn (clauses_of t.store) (state_of t).set lit (at + 1)
-left_rests t at d lit kept within left =
-    let clause = get_or (clauses_of t.store) at d in
-    let next : suc at ≡ at + 1 = omega arith in
-    let named : IsNamed (clauses_of t.store) (suc at) clause = slice_get-get_or (clauses_of t.store) at d within in
-    let others = left_others t.variables t.table.truths.items t.table.levels.items t.table.reasons.items t.table.order.items clause lit kept.table left in
-    record {
-      clause = clause;
-      named = subst (λ (n : ℕ). IsNamed (clauses_of t.store) n clause) next named;
-      within = left.has;
-      others = subst (λ (xs : List Lit). All (λ l. (l ≡ lit) ⊎ IsFalseLit xs l) clause) (sym (order_is t)) others;
-    }
-
-pub left_open : (t u : Inner) (at : ℕ) (d : List Lit) (lit : Lit) → IsKept u → u.store ≡ t.store → u.table.order.items ≡ t.table.order.items ++ lit ∷ []
-    → IsLeft t.table.truths.items (get_or (clauses_of t.store) at d) lit → IsOpen u.table.order.items (get_or (clauses_of u.store) at d)
-left_open t u at d lit kept store order left =
-    let has : Contains (get_or (clauses_of u.store) at d) lit = subst (λ s. Contains (get_or (clauses_of s) at d) lit) (sym store) left.has in
-    satisfied_is_open u.table.order.items (get_or (clauses_of u.store) at d) lit (kept_consistent u kept) has
-    (subst (λ (xs : List Lit). Contains xs lit) (sym order) (Contains-push t.table.order.items lit))
 
 -- ---- going back
 
@@ -309,6 +329,7 @@ pub record IsBack (t u : Inner) (level : ℕ) : Type 0 where
   pub below : level < length t.starts.items
   pub variables : u.variables ≡ t.variables
   pub store : u.store ≡ t.store
+  pub watch : u.watch ≡ t.watch
   pub table : IsTable t.variables u.table.truths.items u.table.levels.items u.table.reasons.items u.table.order.items
   pub levels : u.table.levels.items ≡ t.table.levels.items
   pub reasons : u.table.reasons.items ≡ t.table.reasons.items
@@ -316,16 +337,11 @@ pub record IsBack (t u : Inner) (level : ℕ) : Type 0 where
   pub order_room : vec_capacity u.table.order ≡ vec_capacity t.table.order
   pub starts : u.starts.items ≡ take level t.starts.items
   pub starts_room : vec_capacity u.starts ≡ vec_capacity t.starts
-  pub head : u.head ≡ get_or t.starts.items level 0
-  pub seen : u.seen ≡ length (clauses_of t.store)
+  pub fronts : u.fronts.items ≡ take level t.fronts.items
+  pub fronts_room : vec_capacity u.fronts ≡ vec_capacity t.fronts
+  pub head : u.head ≡ get_or t.fronts.items level 0
+  pub seen : u.seen ≡ t.seen
   pub spent : u.spent ≡ t.spent
-
-pub start_within : (t : Inner) (level : ℕ) → IsKept t → level < length t.starts.items → get_or t.starts.items level 0 ≤ length t.table.order.items
-start_within t level kept lt =
-    let told = kept.starts.told level lt in
-    let short = filter_shorter (λ (e : Entry). leb e.level level) (state_of t).set in
-    let long = set_long t in
-    omega arith
 
 set_back : (t u : Inner) (level : ℕ) → IsKept t → IsBack t u level → (state_of u).set ≡ (gone_back (state_of t) level).set
 set_back t u level kept is =
@@ -356,37 +372,61 @@ starts_back s starts level are below =
       short = (let rise = are.rises level below in let told = are.told level below in omega arith);
     }
 
-quiet_back : (t u : Inner) (level : ℕ) → IsKept t → IsBack t u level → IsQuiet u.table.order.items (clauses_of t.store)
-quiet_back t u level kept is =
-    let below = is.below in
-    let quiet = kept.trail.quiet level is.below in
-    let same : at_decision (suc level) (state_of t).set ≡ u.table.order.items =
-    ap literals (filter_agree (λ (e : Entry). ltb e.level (suc level)) (λ (e : Entry). leb e.level level) (same_tests level) (state_of t).set)
-    ∙ ap literals (sym (set_back t u level kept is)) ∙ order_is u in
-    subst (λ (xs : List Lit). IsQuiet xs (clauses_of t.store)) same quiet
+-- what was true at a decision is a front of the order
+pub front_at : (t : Inner) (level : ℕ) → IsKept t → level < length t.starts.items → literals (gone_back (state_of t) level).set ≡ take (get_or t.starts.items level 0) t.table.order.items
+front_at t level kept lt =
+    let n = get_or t.starts.items level 0 in
+    ap literals (back_is_front (state_of t) level kept.trail ∙ ap (λ (m : ℕ). take m (state_of t).set) (sym (kept.starts.told level lt)))
+    ∙ sym (take-map (λ (e : Entry). e.lit) n (state_of t).set) ∙ ap (take n) (order_is t)
+
+pub at_start : (t : Inner) (level : ℕ) → IsKept t → level < length t.starts.items → at_decision (suc level) (state_of t).set ≡ take (get_or t.starts.items level 0) t.table.order.items
+at_start t level kept lt =
+    ap literals (filter_agree (λ (e : Entry). ltb e.level (suc level)) (λ (e : Entry). leb e.level level) (same_tests level) (state_of t).set) ∙ front_at t level kept lt
+
+-- levels have more and more true literals
+starts_rise : (t : Inner) (level : ℕ) → IsKept t → level < length t.starts.items → (k : ℕ) → k < level → get_or t.starts.items k 0 ≤ get_or t.starts.items level 0
+starts_rise t level kept below k lt =
+    let s = gone_back (state_of t) level in
+    let are = starts_back (state_of t) t.starts.items level kept.starts below in
+    let long = length-take-le level t.starts.items (omega arith) in
+    let told = are.told k (omega arith) in
+    let same = get_or-take level t.starts.items k 0 (omega arith) in
+    let short = filter_shorter (λ (e : Entry). leb e.level k) s.set in
+    let whole = kept.starts.told level below in
+    omega arith
 
 pub back_kept : (t u : Inner) (level : ℕ) → IsKept t → IsBack t u level → IsKept u
 back_kept t u level kept is =
     let below = is.below in
+    let start = get_or t.starts.items level 0 in
     let state = state_back t u level kept is in
     let a = start_within t level kept is.below in
-    let b = ap length is.order ∙ length-take-le (get_or t.starts.items level 0) t.table.order.items a in
+    let b = ap length is.order ∙ length-take-le start t.table.order.items a in
     let c = is.head in
+    let front = kept.fronts.within level is.below in
     let d = kept.few in let e = is.variables in
     let f = kept.order_room in let g = is.order_room in
     let h = kept.starts_room in let i = is.starts_room in
+    let j = kept.fronts_room in let k = is.fronts_room in
     record {
       trail = subst IsTrail (sym state) (back_is_trail (state_of t) level kept.trail (omega arith));
       store = subst IsStore (sym is.store) kept.store;
-      lasts_long = rw (is.store, is.variables) kept.lasts_long;
       table = subst (λ (n : ℕ). IsTable n u.table.truths.items u.table.levels.items u.table.reasons.items u.table.order.items) (sym is.variables) is.table;
       starts = rw (ap (λ (s : TrailState). s.set) state, is.starts) (starts_back (state_of t) t.starts.items level kept.starts is.below);
-      settled = λ k x low lt. inl (subst (λ s. IsOpen u.table.order.items (get_or (clauses_of s) k x)) (sym is.store) (quiet_back t u level kept is k x (let s = is.seen in omega arith)));
+      fronts = rw (is.starts, is.fronts) (fronts_back t.starts.items t.fronts.items level kept.fronts (omega arith));
+      listed = rw is.watch kept.listed;
+      firsts_long = rw (is.watch, is.variables) kept.firsts_long;
+      guards_long = rw (is.watch, is.seen) kept.guards_long;
+      guarded = rw (is.store, is.watch, is.order, is.head, take-take (get_or t.fronts.items level 0) start t.table.order.items front) (kept.were level is.below);
+      were = rw (is.store, is.watch, is.order, is.starts, is.fronts)
+          (were_back (clauses_of t.store) (guards_of t.watch) t.table.order.items t.starts.items t.fronts.items level start kept.fronts (omega arith) (starts_rise t level kept is.below) kept.were);
       head_within = omega arith;
-      seen_within = (let s = is.seen in let same = ap (λ s. length (clauses_of s)) is.store in omega arith);
+      seen_within = rw (is.store, is.seen) kept.seen_within;
       few = omega arith;
       order_room = omega arith;
       starts_room = omega arith;
+      fronts_room = omega arith;
+      watchers_room = rw (is.store, is.watch) kept.watchers_room;
     }
 
 -- at the present level nothing goes
@@ -411,25 +451,89 @@ order_apart t kept i j d lt within =
 pub state_added : (t : Inner) (store : Store) (clause : List Lit) → clauses_of store ≡ clauses_of t.store ++ clause ∷ [] → state_of (record t { store = store }) ≡ with_clause (state_of t) clause
 state_added t store clause more = made refl more refl refl refl
 
-pub added_kept : (t : Inner) (store : Store) (clause : List Lit) → IsKept t → IsStore store → length store.lasts.items ≡ length t.store.lasts.items → clauses_of store ≡ clauses_of t.store ++ clause ∷ []
+-- there is room for the watchers of one clause more
+pub record IsWide (t : Inner) : Type 0 where
+  pub room : 2 * length (clauses_of t.store) + 2 ≤ vec_capacity t.watch.watchers
+
+pub added_kept : (t : Inner) (store : Store) (clause : List Lit) → IsKept t → IsWide t → IsStore store → clauses_of store ≡ clauses_of t.store ++ clause ∷ []
     → All (λ l. variable_of l < t.variables) clause → 0 < length clause → WasOpen (state_of t) (length t.starts.items) clause → IsKept (record t { store = store })
-added_kept t store clause kept is lasts more within some open_ =
+added_kept t store clause kept wide is more within some open_ =
     let long = ap length more ∙ length-append (clauses_of t.store) (clause ∷ []) in
+    let guards_long = kept.guards_long in
+    let below = kept.seen_within in
+    let a = wide.room in
     let not_empty : clause ≢ [] = λ none. let e = ap length none in omega arith in
     record {
       trail = subst IsTrail (sym (state_added t store clause more)) (added_is_trail (state_of t) clause kept.trail within not_empty open_);
       store = is;
-      lasts_long = lasts ∙ kept.lasts_long;
       table = kept.table;
       starts = kept.starts;
-      settled = λ k d low lt.
-          let below = kept.seen_within in
-          subst (IsSettled t.table.order.items t.head) (sym (ap (λ xs. get_or xs k d) more ∙ get_or_append_left (clauses_of t.store) (clause ∷ []) d k (omega arith))) (kept.settled k d low lt);
+      fronts = kept.fronts;
+      listed = kept.listed;
+      firsts_long = kept.firsts_long;
+      guards_long = kept.guards_long;
+      guarded = rw more (are_kept (clauses_of t.store) (guards_of t.watch) t.table.order.items (take t.head t.table.order.items) clause (omega arith) kept.guarded);
+      were = λ k lt. rw more (are_kept (clauses_of t.store) (guards_of t.watch) (take (get_or t.starts.items k 0) t.table.order.items) (take (get_or t.fronts.items k 0) t.table.order.items) clause (omega arith) (kept.were k lt));
       head_within = kept.head_within;
-      seen_within = (let below = kept.seen_within in omega arith);
+      seen_within = omega arith;
       few = kept.few;
       order_room = kept.order_room;
       starts_room = kept.starts_room;
+      fronts_room = kept.fronts_room;
+      watchers_room = omega arith;
+    }
+
+-- where memory was wanting, the clauses are as they were
+pub same_kept : (t : Inner) (store : Store) → IsKept t → IsStore store → clauses_of store ≡ clauses_of t.store → IsKept (record t { store = store })
+same_kept t store kept is same =
+    let state : state_of (record t { store = store }) ≡ state_of t = made refl same refl refl refl in
+    record {
+      trail = subst IsTrail (sym state) kept.trail;
+      store = is;
+      table = kept.table;
+      starts = kept.starts;
+      fronts = kept.fronts;
+      listed = kept.listed;
+      firsts_long = kept.firsts_long;
+      guards_long = kept.guards_long;
+      guarded = rw same kept.guarded;
+      were = λ k lt. rw same (kept.were k lt);
+      head_within = kept.head_within;
+      seen_within = rw same kept.seen_within;
+      few = kept.few;
+      order_room = kept.order_room;
+      starts_room = kept.starts_room;
+      fronts_room = kept.fronts_room;
+      watchers_room = rw same kept.watchers_room;
+    }
+
+-- watchers with the same lists and at least as much room
+pub record IsRoomier (v w : Watch) : Type 0 where
+  pub watchers : w.watchers.items ≡ v.watchers.items
+  pub firsts : w.firsts.items ≡ v.firsts.items
+  pub room : vec_capacity v.watchers ≤ vec_capacity w.watchers
+
+pub roomier_kept : (t : Inner) (watch : Watch) → IsKept t → IsRoomier t.watch watch → IsKept (record t { watch = watch })
+roomier_kept t watch kept is =
+    let a = is.room in let b = kept.watchers_room in
+    record {
+      trail = kept.trail;
+      store = kept.store;
+      table = kept.table;
+      starts = kept.starts;
+      fronts = kept.fronts;
+      listed = rw (is.watchers, is.firsts) kept.listed;
+      firsts_long = rw is.firsts kept.firsts_long;
+      guards_long = rw is.watchers kept.guards_long;
+      guarded = rw is.watchers kept.guarded;
+      were = λ k lt. rw is.watchers (kept.were k lt);
+      head_within = kept.head_within;
+      seen_within = kept.seen_within;
+      few = kept.few;
+      order_room = kept.order_room;
+      starts_room = kept.starts_room;
+      fronts_room = kept.fronts_room;
+      watchers_room = omega arith;
     }
 
 -- ---- what is told
@@ -458,27 +562,3 @@ free_of t s lit is free = subst (λ (xs : List Lit). IsUnassigned xs lit) (order
 
 pub quiet_of : (t : Inner) (s : TrailState) → state_of t ≡ s → IsQuiet (literals s.set) s.clauses → IsQuiet t.table.order.items (clauses_of t.store)
 quiet_of t s is quiet = subst (λ (xs : List Lit). IsQuiet xs (clauses_of t.store)) (order_is t) (subst (λ (s : TrailState). IsQuiet (literals s.set) s.clauses) (sym is) quiet)
-
--- ---- what is noted of clauses
-
--- it changes nothing that holds
-pub noted_kept : (t u : Inner) → u ≡ record t { pairs = u.pairs } → IsKept t → IsKept u
-noted_kept t u is kept =
-    let same : IsKept (record t { pairs = u.pairs }) = record {
-      trail = kept.trail;
-      store = kept.store;
-      lasts_long = kept.lasts_long;
-      table = kept.table;
-      starts = kept.starts;
-      settled = kept.settled;
-      head_within = kept.head_within;
-      seen_within = kept.seen_within;
-      few = kept.few;
-      order_room = kept.order_room;
-      starts_room = kept.starts_room;
-    } in
-    subst IsKept (sym is) same
-
-pub noted_further : (t u : Inner) → u ≡ record t { pairs = u.pairs } → IsFurther t u
-noted_further t u is =
-    further_same t u (ap (λ x. state_of x) is) (ap (λ x. x.store) is) (ap (λ x. x.spent) is) (ap (λ x. x.table) is)

@@ -1,10 +1,12 @@
 pub mod Trail
-pub mod Settled
 pub mod Parts
 pub mod Stored
+pub mod Watch
+pub mod Watchers
 pub mod Tabled
 pub mod Kept
 pub mod Further
-pub mod Visit
-pub mod Standing
+pub mod Walk
+pub mod Scan
 pub mod Outcome
+pub mod Guarded

@@ -1,5 +1,5 @@
 -- Inner: the vectors of a trail, and what holds of each.
-use Rattle.std.specs.Prelude.{◌≡◌, ℕ, suc, zero, ◌*◌, ◌-◌, ◌<◌, ◌≤◌, leb, List, [], ◌∷◌, map, length, slice_index, slice_index_or, slice_range, Option, Some, None, ⊤}
+use Rattle.std.specs.Prelude.{◌≡◌, ℕ, suc, zero, ◌*◌, ◌-◌, ◌<◌, ◌≤◌, leb, List, [], ◌∷◌, map, length, slice_index, slice_range, Option, Some, None}
 use Rattle.std.specs.List.{All, Contains, filter}
 use Rattle.lz_cnf.specs.declared.clause.Lit.{Lit}
 use Rattle.lz_cnf.specs.Models.{variable_of}
@@ -13,33 +13,13 @@ cut_at literals [] = []
 cut_at literals (first ∷ []) = []
 cut_at literals (first ∷ second ∷ bounds) = slice_range literals first second ∷ cut_at literals (second ∷ bounds)
 
--- a place of a literal, counted from 1, or 0 for none
-abbrev pub IsPlaceOf : List Lit → Lit → ℕ → Type 0
-IsPlaceOf literals lit zero = ⊤
-IsPlaceOf literals lit (suc place) = (place < length literals) × (slice_index_or literals place lit ≡ lit)
-
--- The places of each literal are linked from the last to the first. Places are counted from 1, and 0 ends a chain.
-pub record AreLinked (literals : List Lit) (next lasts : List ℕ) : Type 0 where
-  pub numbers : All (λ lit. lit.0 < length lasts) literals
-  pub next_long : length next ≡ length literals
-  pub last_is : (lit : Lit) → lit.0 < length lasts → IsPlaceOf literals lit (slice_index lasts lit.0)
-  pub next_is : (place : ℕ) (lit : Lit) → place < length literals → slice_index_or literals place lit ≡ lit → IsPlaceOf literals lit (slice_index next place)
-  -- no place of a literal stands past its last one, and none between a place and the next
-  pub none_past : (lit : Lit) (place : ℕ) → lit.0 < length lasts → slice_index lasts lit.0 ≤ place → place < length literals → slice_index_or literals place lit ≡ lit → ⊥
-  pub none_between : (lit : Lit) (place other : ℕ) → place < length literals → slice_index_or literals place lit ≡ lit
-      → slice_index next place ≤ other → other < place → slice_index_or literals other lit ≡ lit → ⊥
-  pub falls : (place : ℕ) → place < length literals → slice_index next place ≤ place
-
--- the bounds cut all literals into clauses, and each place names its clause
-pub record AreCut (literals : List Lit) (bounds owners : List ℕ) : Type 0 where
+-- the bounds cut all literals into clauses
+pub record AreCut (literals : List Lit) (bounds : List ℕ) : Type 0 where
   pub some : 0 < length bounds
   pub start : slice_index bounds 0 ≡ 0
   pub end : slice_index bounds (length bounds - 1) ≡ length literals
   pub within : (k : ℕ) → k < length bounds → slice_index bounds k ≤ length literals
   pub rising : (k : ℕ) → suc k < length bounds → slice_index bounds k ≤ slice_index bounds (suc k)
-  pub owners_long : length owners ≡ length literals
-  pub owners_within : (place : ℕ) → place < length literals → suc (slice_index owners place) < length bounds
-  pub owned : (k place : ℕ) → suc k < length bounds → slice_index bounds k ≤ place → place < slice_index bounds (suc k) → slice_index owners place ≡ k
 
 -- ---- true literals
 

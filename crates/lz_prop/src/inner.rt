@@ -1,26 +1,30 @@
-ghost use Rattle.std.specs.Prelude.{◌≡◌, ℕ, suc, ◌+◌, ◌*◌, ◌<◌, ◌≤◌, false, [], ◌∷◌, ◌++◌, length, List, slice_index_or, IsTrue, IsErr, IfOk, OnOk, OnErr};
-ghost use Rattle.std.specs.List.{All};
+ghost use Rattle.std.specs.Prelude.{◌≡◌, ◌+◌, ◌-◌, ◌*◌, ◌/◌, ◌<◌, ◌≤◌, [], ◌∷◌, ◌++◌, length, take, List, slice_index_or, IsTrue, IsErr, IfOk, OnOk, OnErr};
+ghost use Rattle.std.specs.List.{All, Contains};
+ghost use Rattle.std.specs.Vec.{vec_capacity};
 ghost use Rattle.lz_cnf.specs.declared.clause.Lit.{Lit};
 ghost use Rattle.lz_cnf.specs.Models.{variable_of, negated, IsFormula, NoneEmpty};
 ghost use Rattle.lz_cnf.specs.Partial.{IsUnassigned, IsQuiet};
-ghost use Rattle.lz_prop.specs.Trail.{RestsOn, literals, opening, decided, gone_back, with_clause, given_up, WasOpen};
+ghost use Rattle.lz_prop.specs.Trail.{RestsOn, opening, decided, gone_back, with_clause, given_up, WasOpen};
 ghost use Rattle.lz_prop.specs.Stored.{IsStore, clauses_of};
+ghost use Rattle.lz_prop.specs.Watch.{twin};
+ghost use Rattle.lz_prop.specs.Watchers.{guards_of};
+ghost use Rattle.lz_prop.specs.Guarded.{IsGuarded, WasGuarded};
 ghost use Rattle.lz_prop.specs.Kept.{IsKept, state_of};
-ghost use Rattle.lz_prop.specs.Standing.{Stands};
-ghost use Rattle.lz_prop.specs.Further.{IsFurther, IsLooked, IsLookedThrough, IsVisited, IsHandled, IsPropagated};
+ghost use Rattle.lz_prop.specs.Scan.{AreOthersFalse, IsLeft, IsOther, IsLeftFound, IsOtherFound, IsLast};
+ghost use Rattle.lz_prop.specs.Further.{IsFurther, IsForced, IsLooked, IsLookedThrough, IsVisited, IsHandled, IsPropagated};
+ghost use Rattle.lz_prop.specs.Walk.{IsWalk, IsTurn, IsTurned};
 
-use crate::pair::{Pair, find_pair, shows_open};
-use crate::status::{Status, status_of};
+use crate::scan::{find_left, find_other, last_set};
 use crate::store::Store;
 use crate::table::Table;
+use crate::watch::{Watch, twin};
 use lz_base::Memory;
 use lz_cnf::{Cnf, Lit};
 use std::alloc::Global;
 
-/// Nothing was noted.
-const NO_PAIR: Pair = Pair { one: 0, other: 0 };
-
-/// The parts of a trail.
+/// The parts of a trail. Each clause that was looked at has two watchers, of literals of its own: where one of these is
+/// false by a literal that was handled, the clause has a true literal. This holds at each decision too, by what was true
+/// and handled then, so that going back changes no watcher.
 #[derive(Drop)]
 pub struct Inner {
     /// The number of variables.
@@ -29,24 +33,24 @@ pub struct Inner {
     pub table: Table,
     /// For each level from 1 on how many literals were true when it was decided.
     pub starts: Vec<u32>,
-    /// How many literals of the order were handled: the clauses that they make false in part were looked at.
+    /// For each level from 1 on how many literals were handled when it was decided.
+    pub fronts: Vec<u32>,
+    /// The watchers of the clauses that were looked at.
+    pub watch: Watch,
+    /// How many literals of the order were handled: the watchers of the literals that they make false were looked at.
     pub head: usize,
     /// How many clauses were looked at since they were added.
     pub seen: usize,
     /// Whether memory was wanting.
     pub spent: bool,
-    /// For each clause, as far as there was memory, what was last found to keep it open. It only saves time.
-    pub pairs: Vec<Pair>,
 }
 
 /// The store of a formula's clauses.
 fn store_of(alloc: Global, formula: &Cnf) -> Result<Store, Memory>
-    requires { IsFormula formula.now }
     ensures store { IfOk result (λ s. IsStore s) }
-    ensures lasts { IfOk result (λ s. length s.lasts.items ≡ 2 * formula.now.variables) }
     ensures clauses { IfOk result (λ s. clauses_of s ≡ formula.now.clauses) }
 {
-    let mut store = Store::new(alloc, formula.variables)?;
+    let mut store = Store::new(alloc)?;
     for clause in formula.clauses.items() {
         store.keep(clause.items())?;
     }
@@ -66,17 +70,19 @@ impl Inner {
         }
         let store = store_of(alloc, formula)?;
         let table = Table::new(alloc, formula.variables)?;
+        let watch = Watch::new(alloc, formula.variables, store.len() as u32)?;
         let starts = Vec::with_capacity(alloc, formula.variables as usize)?;
-        let pairs = Vec::from_elem(alloc, NO_PAIR, formula.clauses.items().len())?;
+        let fronts = Vec::with_capacity(alloc, formula.variables as usize)?;
         Ok(Inner {
             variables: formula.variables,
             store,
             table,
             starts,
+            fronts,
+            watch,
             head: 0,
             seen: 0,
             spent: false,
-            pairs,
         })
     }
 
@@ -98,6 +104,7 @@ impl Inner {
         ensures state { state_of self.new ≡ decided (state_of self.old) lit }
     {
         self.starts.push_reserved(self.table.order.len() as u32);
+        self.fronts.push_reserved(self.head as u32);
         self.table.put(lit, self.starts.len() as u32, 0);
     }
 
@@ -110,6 +117,7 @@ impl Inner {
         ensures kept { IsKept self.new }
         ensures further { IsFurther self.old self.new }
         ensures order { self.new.table.order.items ≡ self.old.table.order.items ++ lit ∷ [] }
+        ensures watch { self.new.watch ≡ self.old.watch }
         ensures head { self.new.head ≡ self.old.head }
         ensures seen { self.new.seen ≡ self.old.seen }
     {
@@ -117,109 +125,125 @@ impl Inner {
         self.table.put(lit, level, number);
     }
 
-    /// How a clause stands, counted from 0.
-    fn status(&self, at: usize) -> Status
-        requires kept { IsKept self.now }
-        requires within { at < length (clauses_of self.now.store) }
-        ensures { (d : List Lit) → Stands self.now.table.truths.items (slice_index_or (clauses_of self.now.store) at d) result }
-    {
-        status_of(self.store.clause(at), &self.table.truths)
-    }
-
-    /// Notes what keeps a clause open, if there is a place for it.
-    fn note(&mut self, at: usize, pair: Pair)
-        requires kept { IsKept self.old }
-        ensures kept { IsKept self.new }
-        ensures further { IsFurther self.old self.new }
-        ensures order { self.new.table.order.items ≡ self.old.table.order.items }
-        ensures head { self.new.head ≡ self.old.head }
-        ensures seen { self.new.seen ≡ self.old.seen }
-    {
-        if at < self.pairs.len() {
-            self.pairs[at] = pair;
-        }
-    }
-
-    /// Whether two places of a clause, counted from 0, show that it is neither unit nor false.
-    fn shows(&self, at: usize, pair: Pair) -> bool
-        requires kept { IsKept self.now }
-        requires within { at < length (clauses_of self.now.store) }
-        ensures { IsTrue result → IsLooked self.now at false }
-    {
-        shows_open(self.store.clause(at), &self.table.truths, pair)
-    }
-
-    /// What keeps a clause open, counted from 0, if it is open.
-    fn find(&self, at: usize) -> Pair
-        requires kept { IsKept self.now }
-        requires within { at < length (clauses_of self.now.store) }
-    {
-        find_pair(self.store.clause(at), &self.table.truths)
-    }
-
-    /// What was noted of a clause.
-    fn noted(&self, at: usize) -> Pair {
-        if at < self.pairs.len() {
-            self.pairs[at]
-        } else {
-            NO_PAIR
-        }
-    }
-
-    /// Whether a clause, counted from 0, is neither unit nor false: by what was noted, or else by a search through it,
-    /// which is noted.
-    fn is_open(&mut self, at: usize) -> bool
+    /// Makes the literal true that is left of a clause, counted from 0, if it is not false. Answers whether it is true.
+    fn force(&mut self, at: usize, lit: Lit) -> bool
         requires kept { IsKept self.old }
         requires within { at < length (clauses_of self.old.store) }
+        requires has { (d : List Lit) → Contains (slice_index_or (clauses_of self.old.store) at d) lit }
+        requires others { (d : List Lit) → AreOthersFalse self.old.table.truths.items (slice_index_or (clauses_of self.old.store) at d) lit }
         ensures kept { IsKept self.new }
         ensures further { IsFurther self.old self.new }
+        ensures watch { self.new.watch ≡ self.old.watch }
         ensures head { self.new.head ≡ self.old.head }
         ensures seen { self.new.seen ≡ self.old.seen }
-        ensures looked { IsTrue result → IsLooked self.new at false }
+        ensures forced { IsForced self.new at lit result }
     {
-        let noted = self.noted(at);
-        if self.shows(at, noted) {
+        if self.table.truths[lit.0 as usize] == 1 {
             return true;
         }
-        let found = self.find(at);
-        self.note(at, found);
-        self.shows(at, found)
-    }
-
-    /// Looks at a clause, counted from 0, and sets the literal that it leaves. Answers whether the clause is false.
-    fn look(&mut self, at: usize) -> bool
-        requires kept { IsKept self.old }
-        requires within { at < length (clauses_of self.old.store) }
-        ensures kept { IsKept self.new }
-        ensures further { IsFurther self.old self.new }
-        ensures head { self.new.head ≡ self.old.head }
-        ensures seen { self.new.seen ≡ self.old.seen }
-        ensures looked { IsLooked self.new at result }
-    {
-        if self.is_open(at) {
+        if self.table.truths[lit.negated().0 as usize] == 1 {
             return false;
         }
-        self.settle(at)
+        self.imply(lit, at as u32 + 1);
+        true
     }
 
-    /// Goes through a clause, counted from 0, and sets the literal that it leaves. Answers whether the clause is false.
-    fn settle(&mut self, at: usize) -> bool
+    /// A literal of a clause, counted from 0, that is not false.
+    fn left(&self, at: usize) -> Option<Lit>
+        requires kept { IsKept self.now }
+        requires within { at < length (clauses_of self.now.store) }
+        ensures { (d : List Lit) → IsLeftFound self.now.table.truths.items (slice_index_or (clauses_of self.now.store) at d) result }
+    {
+        find_left(self.store.clause(at), &self.table.truths)
+    }
+
+    /// A literal of a clause, counted from 0, that is not false and another one than this.
+    fn other(&self, at: usize, lit: Lit) -> Option<Lit>
+        requires kept { IsKept self.now }
+        requires within { at < length (clauses_of self.now.store) }
+        ensures { (d : List Lit) → IsOtherFound self.now.table.truths.items (slice_index_or (clauses_of self.now.store) at d) lit result }
+    {
+        find_other(self.store.clause(at), &self.table.truths, lit)
+    }
+
+    /// The literal of a clause, counted from 0, that was set at the greatest level, this one left out.
+    fn last(&self, at: usize, lit: Lit) -> Lit
+        requires kept { IsKept self.now }
+        requires within { at < length (clauses_of self.now.store) }
+        requires has { (d : List Lit) → Contains (slice_index_or (clauses_of self.now.store) at d) lit }
+        ensures { (d : List Lit) → IsLast self.now.table.levels.items (slice_index_or (clauses_of self.now.store) at d) (slice_index_or (clauses_of self.now.store) at d) lit result }
+    {
+        last_set(self.store.clause(at), &self.table.levels, lit)
+    }
+
+    /// Gives the first clause that was not looked at its two watchers.
+    fn guard(&mut self, one: Lit, other: Lit)
         requires kept { IsKept self.old }
-        requires within { at < length (clauses_of self.old.store) }
+        requires within { self.old.seen < length (clauses_of self.old.store) }
+        requires now { (d : List Lit) → IsGuarded self.old.table.order.items (take self.old.head self.old.table.order.items) (slice_index_or (clauses_of self.old.store) self.old.seen d) one other }
+        requires were { (d : List Lit) → WasGuarded self.old.table.order.items self.old.starts.items self.old.fronts.items (slice_index_or (clauses_of self.old.store) self.old.seen d) one other }
         ensures kept { IsKept self.new }
         ensures further { IsFurther self.old self.new }
         ensures head { self.new.head ≡ self.old.head }
-        ensures seen { self.new.seen ≡ self.old.seen }
-        ensures looked { IsLooked self.new at result }
+        ensures seen { self.new.seen ≡ self.old.seen + 1 }
     {
-        match self.status(at) {
-            Status::Open => false,
-            Status::OneLeft { lit } => {
-                self.imply(lit, at as u32 + 1);
+        self.watch.push(one);
+        self.watch.push(other);
+        self.seen += 1;
+    }
+
+    /// Looks at the first clause that was not looked at: sets the literal that it leaves, and gives it its watchers.
+    /// Answers whether the clause is false.
+    fn look(&mut self) -> bool
+        requires kept { IsKept self.old }
+        requires within { self.old.seen < length (clauses_of self.old.store) }
+        ensures kept { IsKept self.new }
+        ensures further { IsFurther self.old self.new }
+        ensures head { self.new.head ≡ self.old.head }
+        ensures looked { IsLooked self.old self.new result }
+    {
+        match self.left(self.seen) {
+            Some(lit) => self.look_beside(lit),
+            None => true,
+        }
+    }
+
+    /// The same, with a literal of the clause that is not false.
+    fn look_beside(&mut self, lit: Lit) -> bool
+        requires kept { IsKept self.old }
+        requires within { self.old.seen < length (clauses_of self.old.store) }
+        requires left { (d : List Lit) → IsLeft self.old.table.truths.items (slice_index_or (clauses_of self.old.store) self.old.seen d) lit }
+        ensures kept { IsKept self.new }
+        ensures further { IsFurther self.old self.new }
+        ensures head { self.new.head ≡ self.old.head }
+        ensures looked { IsLooked self.old self.new result }
+    {
+        match self.other(self.seen, lit) {
+            Some(other) => {
+                self.guard(lit, other);
                 false
             }
-            Status::AllFalse => true,
+            None => self.look_alone(lit),
         }
+    }
+
+    /// The same, with the only literal of the clause that is not false.
+    fn look_alone(&mut self, lit: Lit) -> bool
+        requires kept { IsKept self.old }
+        requires within { self.old.seen < length (clauses_of self.old.store) }
+        requires left { (d : List Lit) → IsLeft self.old.table.truths.items (slice_index_or (clauses_of self.old.store) self.old.seen d) lit }
+        requires others { (d : List Lit) → AreOthersFalse self.old.table.truths.items (slice_index_or (clauses_of self.old.store) self.old.seen d) lit }
+        ensures kept { IsKept self.new }
+        ensures further { IsFurther self.old self.new }
+        ensures head { self.new.head ≡ self.old.head }
+        ensures looked { IsLooked self.old self.new result }
+    {
+        if !self.force(self.seen, lit) {
+            return true;
+        }
+        let last = self.last(self.seen, lit);
+        self.guard(lit, last);
+        false
     }
 
     /// Looks at the clauses that were not looked at. Answers the first false one, counted from 0.
@@ -230,16 +254,72 @@ impl Inner {
         ensures outcome { IsLookedThrough self.new result }
     {
         while self.seen < self.store.len() {
-            if self.look(self.seen) {
+            if self.look() {
                 return Some(self.seen);
             }
-            self.seen += 1;
         }
         None
     }
 
-    /// Looks at the clauses that hold a literal, the negation of the first one that waits. Answers the first false
-    /// clause, counted from 0.
+    /// Moves the watcher at which the walk stands to another literal of its clause, which is not false.
+    fn shift(&mut self, lit: Lit, before: usize, at: usize, to: Lit)
+        requires kept { IsKept self.old }
+        requires walk { IsWalk self.old lit before at }
+        requires some { 0 < at }
+        requires other { (d : Lit) (c : List Lit) → IsOther self.old.table.truths.items (slice_index_or (clauses_of self.old.store) ((at - 1) / 2) c) (slice_index_or (guards_of self.old.watch) (twin (at - 1)) d) to }
+        ensures kept { IsKept self.new }
+        ensures further { IsFurther self.old self.new }
+        ensures head { self.new.head ≡ self.old.head }
+        ensures seen { self.new.seen ≡ self.old.seen }
+        ensures turn { IsTurn self.old self.new lit before at }
+    {
+        self.watch.shift(lit, before, at, to);
+    }
+
+    /// Looks at the clause of the watcher at which the walk stands: where the other watched literal is true, the watcher
+    /// stays. Answers the watcher behind which the walk stands then, or nothing where the clause is false.
+    fn turn(&mut self, lit: Lit, before: usize, at: usize) -> Option<usize>
+        requires kept { IsKept self.old }
+        requires walk { IsWalk self.old lit before at }
+        requires some { 0 < at }
+        ensures kept { IsKept self.new }
+        ensures further { IsFurther self.old self.new }
+        ensures head { self.new.head ≡ self.old.head }
+        ensures seen { self.new.seen ≡ self.old.seen }
+        ensures turned { IsTurned self.old self.new lit at result }
+    {
+        let other = self.watch.watchers[twin(at - 1)].lit;
+        if self.table.truths[other.0 as usize] == 1 {
+            return Some(at);
+        }
+        self.turn_on(lit, before, at, other)
+    }
+
+    /// The same, where the other watched literal is not true: the watcher moves to a literal that is not false, or else
+    /// the other literal follows.
+    fn turn_on(&mut self, lit: Lit, before: usize, at: usize, other: Lit) -> Option<usize>
+        requires kept { IsKept self.old }
+        requires walk { IsWalk self.old lit before at }
+        requires some { 0 < at }
+        requires other { (d : Lit) → other ≡ slice_index_or (guards_of self.old.watch) (twin (at - 1)) d }
+        ensures kept { IsKept self.new }
+        ensures further { IsFurther self.old self.new }
+        ensures head { self.new.head ≡ self.old.head }
+        ensures seen { self.new.seen ≡ self.old.seen }
+        ensures turned { IsTurned self.old self.new lit at result }
+    {
+        if let Some(to) = self.other((at - 1) / 2, other) {
+            self.shift(lit, before, at, to);
+            return Some(before);
+        }
+        if self.force((at - 1) / 2, other) {
+            return Some(at);
+        }
+        None
+    }
+
+    /// Walks along the watchers of a literal, the negation of the first one that waits. Answers the first false clause,
+    /// counted from 0.
     fn walk(&mut self, lit: Lit) -> Option<usize>
         requires kept { IsKept self.old }
         requires waiting { self.old.head < length self.old.table.order.items }
@@ -250,15 +330,23 @@ impl Inner {
         ensures seen { self.new.seen ≡ self.old.seen }
         ensures outcome { IsVisited self.new result }
     {
-        let mut at = self.store.lasts[lit.0 as usize] as usize;
-        while at > 0 {
-            let owner = self.store.owners[at - 1] as usize;
-            // Read before the look, so that the processor fetches the next place meanwhile.
-            let next = self.store.next[at - 1] as usize;
-            if self.look(owner) {
-                return Some(owner);
+        let mut before = 0;
+        let mut at = self.watch.firsts[lit.0 as usize] as usize;
+        for _ in 0..self.watch.watchers.len() {
+            if at == 0 {
+                return None;
             }
-            at = next;
+            // Read before the turn, so that the processor fetches the next watcher meanwhile.
+            let behind = self.watch.watchers[at - 1].next as usize;
+            match self.turn(lit, before, at) {
+                Some(now) => {
+                    before = now;
+                    at = behind;
+                }
+                None => {
+                    return Some((at - 1) / 2);
+                }
+            }
         }
         None
     }
@@ -317,28 +405,38 @@ impl Inner {
     {
         if level < self.starts.len() {
             let len = self.starts[level] as usize;
+            self.head = self.fronts[level] as usize;
             self.table.shorten(len);
             self.starts.truncate(level);
-            self.head = len;
-            self.seen = self.store.len();
+            self.fronts.truncate(level);
         }
     }
 
-    /// Makes a place for what will be noted of one more clause. For want of memory there is none.
-    fn widen(&mut self)
+    /// Makes room for the watchers of one more clause.
+    fn widen(&mut self) -> Result<(), Memory>
         requires kept { IsKept self.old }
         ensures kept { IsKept self.new }
-        ensures variables { self.new.variables ≡ self.old.variables }
         ensures store { self.new.store ≡ self.old.store }
-        ensures table { self.new.table ≡ self.old.table }
-        ensures starts { self.new.starts ≡ self.old.starts }
-        ensures spent { self.new.spent ≡ self.old.spent }
         ensures state { state_of self.new ≡ state_of self.old }
+        ensures starts { self.new.starts ≡ self.old.starts }
+        ensures room { OnOk result (2 * length (clauses_of self.new.store) + 2 ≤ vec_capacity self.new.watch.watchers) }
     {
-        match self.pairs.push(NO_PAIR) {
-            Ok(()) => {}
-            Err(_) => {}
-        }
+        self.watch.reserve(2 * (self.store.len() + 1 - self.seen))
+    }
+
+    /// Keeps a clause. For want of memory nothing else changes.
+    fn keep(&mut self, clause: &[Lit]) -> Result<(), Memory>
+        requires kept { IsKept self.old }
+        requires variables { All (λ l. variable_of l < self.old.variables) clause.now }
+        requires not_empty { 0 < length clause.now }
+        requires open { WasOpen (state_of self.old) (length self.old.starts.items) clause.now }
+        ensures kept { IsKept self.new }
+        ensures ok { OnOk result (state_of self.new ≡ with_clause (state_of self.old) clause.now) }
+        ensures err { OnErr result (state_of self.new ≡ state_of self.old) }
+    {
+        self.widen()?;
+        self.store.keep(clause)?;
+        Ok(())
     }
 
     /// Keeps a clause, and answers its number. For want of memory nothing else changes, but memory was wanting.
@@ -353,26 +451,10 @@ impl Inner {
         ensures err { OnErr result (state_of self.new ≡ given_up (state_of self.old)) }
         ensures spent { IsTrue self.old.spent → IsErr result }
     {
-        self.widen();
-        self.keep(clause)
-    }
-
-    /// Keeps a clause, and answers its number. For want of memory nothing else changes, but memory was wanting.
-    fn keep(&mut self, clause: &[Lit]) -> Result<u32, Memory>
-        requires kept { IsKept self.old }
-        requires variables { All (λ l. variable_of l < self.old.variables) clause.now }
-        requires not_empty { 0 < length clause.now }
-        requires open { WasOpen (state_of self.old) (length self.old.starts.items) clause.now }
-        ensures kept { IsKept self.new }
-        ensures number { IfOk result (λ number. number ≡ length (clauses_of self.new.store)) }
-        ensures ok { OnOk result (state_of self.new ≡ with_clause (state_of self.old) clause.now) }
-        ensures err { OnErr result (state_of self.new ≡ given_up (state_of self.old)) }
-        ensures spent { IsTrue self.old.spent → IsErr result }
-    {
         if self.spent {
             return Err(Memory);
         }
-        match self.store.keep(clause) {
+        match self.keep(clause) {
             Ok(()) => Ok(self.store.len() as u32),
             Err(Memory) => {
                 self.spent = true;

@@ -2,11 +2,11 @@
 #![tactic(auto)]
 
 mod inner;
-mod pair;
-mod status;
+mod scan;
 mod store;
 mod table;
 mod trail;
+mod watch;
 
 pub use trail::{Propagated, Trail};
 

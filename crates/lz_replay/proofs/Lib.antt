@@ -1,3 +1,5 @@
 pub mod LinesLemmas
 pub mod ReadingLemmas
 pub mod LawsLemmas
+pub mod FollowsLemmas
+pub mod StandsLemmas

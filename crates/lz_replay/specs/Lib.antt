@@ -1,3 +1,5 @@
 pub mod Lines
 pub mod Reading
 pub mod Refusals
+pub mod Replays
+pub mod Stands

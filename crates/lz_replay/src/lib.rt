@@ -1,14 +1,16 @@
 //! Schedules as text, and their replay.
 #![tactic(auto)]
 
+mod answer;
 mod bytes;
 mod error;
 mod laws;
 mod print;
 mod read;
 
+pub use answer::Replayed;
 pub use error::ScheduleError;
-pub use laws::{one_schedule, printed_is_read};
+pub use laws::{one_answer, one_schedule, printed_is_read};
 pub use print::print_schedule;
 pub use read::read_schedule;
 

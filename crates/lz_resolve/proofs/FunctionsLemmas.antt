@@ -1,101 +1,23 @@
--- What a function keeps of the place around it, and the place behind it; and external declarations in their order.
-use Rattle.std.proofs.Common.{◌≡◌, ℕ, ◌+◌, ◌-◌, ◌<◌, ◌≤◌, Bool, false, ◌&&◌, List, [], ◌∷◌, ◌++◌, length, map, drop, take, get_or, Option, Some, None, refl, sym, ap, ◌∙◌, arith, append_assoc, append-nil, drop_of_length-le}
-use Rattle.std.proofs.lemmas.List.{length-append, get_or_default}
+-- What a function with its parameters is made of; and external declarations in their order.
+use Rattle.std.proofs.Common.{◌≡◌, ℕ, ◌+◌, ◌-◌, ◌<◌, ◌≤◌, Bool, ◌&&◌, List, [], ◌∷◌, ◌++◌, length, map, drop, get_or, Option, refl, sym, ap, ◌∙◌, append_assoc, append-nil, drop_of_length-le}
+use Rattle.std.proofs.lemmas.List.{get_or_default}
 use Rattle.lz_base.specs.declared.word.IntType.{IntType}
 use Rattle.lz_tree.specs.declared.expression.TypeName.{TypeName}
 use Rattle.lz_tree.specs.declared.program.External.{External}
 use Rattle.lz_tree.specs.declared.program.Param.{Param}
 use Rattle.lz_tree.specs.declared.scoped.ScopedFunction.{ScopedFunction}
 use Rattle.lz_tree.specs.declared.statement.Declarator.{Declarator}
-use Rattle.lz_tree.specs.Trees.{InitDeclarator, Statement, empty, eval, block, declare, when, while, do_while, for, break, continue, return, label, ExternalDeclaration, init_declarator, external_declaration}
+use Rattle.lz_tree.specs.Trees.{InitDeclarator, Statement, ExternalDeclaration, init_declarator, external_declaration}
 use Rattle.lz_tree.specs.ScopedTrees.{ScopedStatement, ScopedDefinition, scoped_definition}
-use Rattle.lz_scopes.specs.declared.entering.Outer.{Outer}
-use Rattle.lz_scopes.specs.declared.names.Entry.{Entry}
 use Rattle.lz_scopes.specs.declared.place.Place.{Place}
 use Rattle.lz_scopes.specs.Files.{File}
 use Rattle.lz_scopes.specs.ValueTypes.{value_type, kind_of, is_pointer}
-use Rattle.lz_scopes.specs.Views.{outer_of, left_function}
-use Rattle.lz_scopes.specs.Scopes.{bases, is_one_pointer, object_from, after_body, with_function, into, into_body, with_param, with_params, with_declarator, with_declarators, past, after_external}
+use Rattle.lz_scopes.specs.Scopes.{bases, is_one_pointer, after_body, with_function, into, with_param, with_params, with_declarator, with_declarators, after_external}
 use Rattle.lz_scopes.proofs.ArgumentsLemmas.{drop_item}
-use Rattle.lz_scopes.proofs.PlacesLemmas.{Kept, kept, kept_all}
 use Rattle.lz_resolve.specs.ScopedPrograms.{value_kind, param_kinds, scope_body, scope_function, scope_external, scope_externals, after_externals}
 use Rattle.lz_resolve.proofs.DeclarationsLemmas.{left_from}
 
 -- ---- a function
-
--- A place within the function of a name that began at another one.
-pub record InFunction (p : Place) (name : ℕ) (q : Place) : Type 0 where
-  pub more : List Entry
-  pub names : q.names ≡ p.names ++ more
-  pub functions : q.functions ≡ p.functions ++ name ∷ []
-  pub depth : q.depth ≡ p.depth + 1
-  pub function : q.function ≡ p.function
-
-in_into : (p : Place) (gives : TypeName) (name : ℕ) → InFunction p name (into (with_function p name) gives)
-in_into p gives name = record { more = []; names = sym (append-nil p.names); functions = refl; depth = refl; function = refl }
-
-abbrev entry_at : Place → ℕ → TypeName → Entry
-entry_at q name base = record { name = name; depth = q.depth; of = value_type base; array = false; object = object_from q (value_type base) 1 }
-
-in_param : (p : Place) (name : ℕ) (q : Place) → InFunction p name q → (base : TypeName) (param : Option ℕ) → InFunction p name (with_param q base param)
-in_param p name q k base None = k
-in_param p name q k base (Some n) = record {
-  more = k.more ++ entry_at q n base ∷ [];
-  names = rw k.names (append_assoc p.names k.more (entry_at q n base ∷ []));
-  functions = k.functions;
-  depth = k.depth;
-  function = k.function;
-}
-
-in_params : (p : Place) (name : ℕ) (q : Place) → InFunction p name q → (params : List Param) → InFunction p name (with_params q params)
-in_params p name q k [] = k
-in_params p name q k (x ∷ rest) = in_params p name (with_param q x.base x.name) (in_param p name q k x.base x.name) rest
-
-kept_body : (p : Place) (s : Statement) → Kept p (after_body p s)
-kept_body p empty = kept p empty
-kept_body p (eval value) = kept p (eval value)
-kept_body p (block parts) = kept_all p parts
-kept_body p (declare of) = kept p (declare of)
-kept_body p (when line test first second) = kept p (when line test first second)
-kept_body p (while line test body) = kept p (while line test body)
-kept_body p (do_while line body test) = kept p (do_while line body test)
-kept_body p (for line first test change body) = kept p (for line first test change body)
-kept_body p (break line) = kept p (break line)
-kept_body p (continue line) = kept p (continue line)
-kept_body p (return line value) = kept p (return line value)
-kept_body p (label name of) = kept p (label name of)
-
-in_kept : (p : Place) (name : ℕ) (q r : Place) → InFunction p name q → Kept q r → InFunction p name r
-in_kept p name q r k h = record {
-  more = k.more ++ h.more;
-  names = rw (h.names, k.names) (append_assoc p.names k.more h.more);
-  functions = h.functions ∙ k.functions;
-  depth = h.depth ∙ k.depth;
-  function = h.function ∙ k.function;
-}
-
--- the place at the end of its body
-pub in_body : (p p1 p2 p3 : Place) (gives : TypeName) (name : ℕ) (params : List Param) (body : Statement) → p1 ≡ into (with_function p name) gives → p2 ≡ with_params p1 params
-    → p3 ≡ after_body p2 body → InFunction p name p3
-in_body p p1 p2 p3 gives name params body e1 e2 e3 =
-    rw (e3, e2, e1) (in_kept p name (into_body p gives name params) (after_body (into_body p gives name params) body) (in_params p name (into (with_function p name) gives) (in_into p gives name) params)
-    (kept_body (into_body p gives name params) body))
-
-pub body_closable : (p q : Place) (name : ℕ) (outer : Outer) → InFunction p name q → outer ≡ outer_of p → outer.mark ≤ length q.names
-body_closable p q name outer k is = let n = length-append p.names k.more in rw (is, k.names) (omega arith)
-
-pub body_deep : (p q : Place) (name : ℕ) → InFunction p name q → 0 < q.depth
-body_deep p q name k = let d = k.depth in omega arith
-
-take_front : {A : Type 0} (xs ys : List A) → take (length xs) (xs ++ ys) ≡ xs
-take_front [] ys = refl
-take_front (x ∷ xs) ys = ap (λ (l : List _). x ∷ l) (take_front xs ys)
-
--- the place behind it
-pub past_body : (p q : Place) (name : ℕ) (outer : Outer) → InFunction p name q → outer ≡ outer_of p → left_function outer q ≡ past p name q
-past_body p q name outer k is =
-    let depth : q.depth - 1 ≡ p.depth = (let d = k.depth in omega arith) in
-    rw (is, k.names, take_front p.names k.more, k.functions, k.function, depth) refl
 
 -- a function is made of what its parts are
 pub made_function : (file : File) (p p1 p2 p3 : Place) (gives : TypeName) (name : ℕ) (params : List Param) (body : Statement) (start : Bool) (kinds : List IntType) (of : Option IntType) (t : ScopedStatement)

@@ -1,5 +1,4 @@
--- Trusted: the program in which each name but a label's is replaced by what it means, with the kind of each
--- expression, the numbers of all objects and the first words of the cells (C99 6.2.1, 6.7.8 and 6.9).
+-- Trusted: the program in which each name but a label's is replaced by what it means, with the kind of each expression, the numbers of all objects and the first words of the cells (C99 6.2.1, 6.7.8 and 6.9).
 use Rattle.std.specs.Prelude.{ℕ, ◌-◌, false, List, [], ◌∷◌, ◌++◌, map, length, replicate, Option, Some, None, option_map, if◌then◌else◌}
 use Rattle.lz_base.specs.declared.word.IntType.{IntType}
 use Rattle.lz_base.specs.declared.word.IntType.TheVariants as kinds

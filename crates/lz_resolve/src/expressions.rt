@@ -9,7 +9,7 @@ ghost use Rattle.lz_resolve.specs.ScopedPrograms as spec;
 use lz_base::{IntType, Memory};
 use lz_scopes::{Place, ValueType, WholeFile, callee, type_of};
 use lz_tree::{Binary, Expr, KnownName, Object, ScopedExpr, ScopedExprs, ScopedTarget, Target};
-use std::alloc::{AllocError, Global};
+use std::alloc::Global;
 
 /// The kind of a value, where it is one: a `void *` has the widest unsigned kind.
 pub fn value_kind(of: ValueType) -> Option<IntType>
@@ -88,23 +88,21 @@ fn address_of(line: u32, target: ScopedTarget) -> ScopedExpr
 
 /// An assignment to an object.
 fn assign_of(
-    alloc: Global,
     line: u32,
     op: Option<Binary>,
     target: ScopedTarget,
-    value: ScopedExpr,
+    value: Box<ScopedExpr>,
     kind: Option<IntType>,
-) -> Result<ScopedExpr, AllocError>
-    ensures { IfOk result (λ e. scoped_expression e ≡ scoped.assign line op (scoped_target target) (scoped_expression value) kind) }
+) -> ScopedExpr
+    ensures { scoped_expression result ≡ scoped.assign line op (scoped_target target) (scoped_expression value.value) kind }
 {
-    let value = Box::new(alloc, value)?;
-    Ok(ScopedExpr::Assign {
+    ScopedExpr::Assign {
         line,
         op,
         target,
         value,
         kind,
-    })
+    }
 }
 
 /// A step of an object.
@@ -159,12 +157,11 @@ fn resolve_target(
             checked: false,
         }),
         Some(index) => {
-            let index = resolve_expr(alloc, file, place, index)?;
-            let index = Some(Box::new(alloc, index)?);
+            let index = resolve_boxed(alloc, file, place, index)?;
             Ok(ScopedTarget {
                 line,
                 object,
-                index,
+                index: Some(index),
                 checked: false,
             })
         }
@@ -188,6 +185,21 @@ pub fn resolve_all(
         all.push(scoped)?;
     }
     Ok(all)
+}
+
+/// The same in a box of its own, as a part of another one.
+#[cycle(resolve)]
+fn resolve_boxed(
+    alloc: Global,
+    file: &WholeFile,
+    place: &Place,
+    e: &Expr,
+) -> Result<Box<ScopedExpr>, Memory>
+    ensures { IfOk result (λ s. scoped_expression s.value ≡ spec.scope file.now place.now (expression e.now)) }
+{
+    let scoped = resolve_expr(alloc, file, place, e)?;
+    let boxed = Box::new(alloc, scoped)?;
+    Ok(boxed)
 }
 
 /// The expression in which each name is what it means at the place. The kind of a node is found from its parts, as
@@ -225,8 +237,7 @@ pub fn resolve_expr(
             Ok(address_of(*line, target))
         }
         Expr::Paren { line, inner } => {
-            let inner = resolve_expr(alloc, file, place, inner)?;
-            let inner = Box::new(alloc, inner)?;
+            let inner = resolve_boxed(alloc, file, place, inner)?;
             Ok(ScopedExpr::Paren {
                 line: *line,
                 inner,
@@ -234,8 +245,7 @@ pub fn resolve_expr(
             })
         }
         Expr::Unary { line, op, of } => {
-            let of = resolve_expr(alloc, file, place, of)?;
-            let of = Box::new(alloc, of)?;
+            let of = resolve_boxed(alloc, file, place, of)?;
             Ok(ScopedExpr::Unary {
                 line: *line,
                 op: *op,
@@ -244,8 +254,7 @@ pub fn resolve_expr(
             })
         }
         Expr::Cast { line, to, of } => {
-            let of = resolve_expr(alloc, file, place, of)?;
-            let of = Box::new(alloc, of)?;
+            let of = resolve_boxed(alloc, file, place, of)?;
             Ok(ScopedExpr::Cast {
                 line: *line,
                 to: *to,
@@ -259,10 +268,8 @@ pub fn resolve_expr(
             left,
             right,
         } => {
-            let left = resolve_expr(alloc, file, place, left)?;
-            let left = Box::new(alloc, left)?;
-            let right = resolve_expr(alloc, file, place, right)?;
-            let right = Box::new(alloc, right)?;
+            let left = resolve_boxed(alloc, file, place, left)?;
+            let right = resolve_boxed(alloc, file, place, right)?;
             Ok(ScopedExpr::Binary {
                 line: *line,
                 op: *op,
@@ -277,12 +284,9 @@ pub fn resolve_expr(
             yes,
             no,
         } => {
-            let test = resolve_expr(alloc, file, place, test)?;
-            let test = Box::new(alloc, test)?;
-            let yes = resolve_expr(alloc, file, place, yes)?;
-            let yes = Box::new(alloc, yes)?;
-            let no = resolve_expr(alloc, file, place, no)?;
-            let no = Box::new(alloc, no)?;
+            let test = resolve_boxed(alloc, file, place, test)?;
+            let yes = resolve_boxed(alloc, file, place, yes)?;
+            let no = resolve_boxed(alloc, file, place, no)?;
             Ok(ScopedExpr::Choose {
                 line: *line,
                 test,
@@ -298,9 +302,8 @@ pub fn resolve_expr(
             value,
         } => {
             let target = resolve_target(alloc, file, place, target)?;
-            let value = resolve_expr(alloc, file, place, value)?;
-            let assign = assign_of(alloc, *line, *op, target, value, kind)?;
-            Ok(assign)
+            let value = resolve_boxed(alloc, file, place, value)?;
+            Ok(assign_of(*line, *op, target, value, kind))
         }
         Expr::Step {
             line,

@@ -1,5 +1,5 @@
 ghost use Rattle.std.specs.Prelude.{◌≡◌, false, map, option_map, OnOk, IfOk};
-ghost use Rattle.lz_tree.specs.Trees.{statement, statements_of, branch_of};
+ghost use Rattle.lz_tree.specs.Trees.{expression, statement, statements_of, branch_of};
 ghost use Rattle.lz_tree.specs.ScopedTrees as scoped;
 ghost use Rattle.lz_tree.specs.ScopedTrees.{scoped_expression, scoped_statement, scoped_statements_of, scoped_branch_of};
 ghost use Rattle.lz_scopes.specs.Scopes as scopes;
@@ -10,7 +10,7 @@ use crate::declarations::{resolve_declaration, resolve_optional};
 use crate::expressions::resolve_expr;
 use lz_base::Memory;
 use lz_scopes::{Place, WholeFile, begin, end};
-use lz_tree::{ScopedExpr, ScopedStmt, ScopedStmts, Stmt};
+use lz_tree::{Expr, ScopedExpr, ScopedStmt, ScopedStmts, Stmt};
 use std::alloc::{AllocError, Global};
 
 /// A block.
@@ -22,63 +22,129 @@ pub fn block_of(parts: ScopedStmts) -> ScopedStmt
 
 /// A statement under a test, and that behind `else`.
 fn if_of(
-    alloc: Global,
     line: u32,
     test: ScopedExpr,
-    yes: ScopedStmt,
+    yes: Box<ScopedStmt>,
     no: Option<Box<ScopedStmt>>,
-) -> Result<ScopedStmt, AllocError>
-    ensures { IfOk result (λ s. scoped_statement s ≡ scoped.when line (scoped_expression test) (scoped_statement yes) (scoped_branch_of no)) }
+) -> ScopedStmt
+    ensures { scoped_statement result ≡ scoped.when line (scoped_expression test) (scoped_statement yes.value) (scoped_branch_of no) }
 {
-    let yes = Box::new(alloc, yes)?;
-    Ok(ScopedStmt::If {
+    ScopedStmt::If {
         line,
         test,
         yes,
         no,
-    })
+    }
+}
+
+/// A loop whose test stands before its body.
+fn while_of(line: u32, test: ScopedExpr, body: Box<ScopedStmt>) -> ScopedStmt
+    ensures { scoped_statement result ≡ scoped.while line (scoped_expression test) (scoped_statement body.value) }
+{
+    ScopedStmt::While { line, test, body }
+}
+
+/// A loop whose test stands behind its body, and is looked up at the place.
+fn do_of(
+    alloc: Global,
+    file: &WholeFile,
+    place: &Place,
+    line: u32,
+    body: Box<ScopedStmt>,
+    test: &Expr,
+) -> Result<ScopedStmt, Memory>
+    ensures { IfOk result (λ s. scoped_statement s ≡ scoped.do_while line (scoped_statement body.value) (spec.scope file.now place.now (expression test.now))) }
+{
+    let test = resolve_expr(alloc, file, place, test)?;
+    Ok(ScopedStmt::Do { line, body, test })
+}
+
+/// The head of a loop: what stands first in it, its test and its step.
+#[derive(Drop)]
+struct Head {
+    first: Box<ScopedStmt>,
+    test: Option<ScopedExpr>,
+    step: Option<ScopedExpr>,
+}
+
+/// The head of a loop whose first part is done; the others are looked up at the place.
+fn head_of(
+    alloc: Global,
+    file: &WholeFile,
+    place: &Place,
+    first: ScopedStmt,
+    test: &Option<Expr>,
+    step: &Option<Expr>,
+) -> Result<Head, Memory>
+    ensures first { IfOk result (λ h. scoped_statement h.first.value ≡ scoped_statement first) }
+    ensures test { IfOk result (λ h. option_map scoped_expression h.test ≡ spec.scope_optional file.now place.now (option_map expression test.now)) }
+    ensures step { IfOk result (λ h. option_map scoped_expression h.step ≡ spec.scope_optional file.now place.now (option_map expression step.now)) }
+{
+    let first = Box::new(alloc, first)?;
+    let test = resolve_optional(alloc, file, place, test)?;
+    let step = resolve_optional(alloc, file, place, step)?;
+    Ok(Head { first, test, step })
 }
 
 /// A loop with a head.
-fn for_of(
-    alloc: Global,
-    line: u32,
-    first: ScopedStmt,
-    test: Option<ScopedExpr>,
-    step: Option<ScopedExpr>,
-    body: ScopedStmt,
-) -> Result<ScopedStmt, AllocError>
-    ensures { IfOk result (λ s. scoped_statement s ≡ scoped.for line (scoped_statement first) (option_map scoped_expression test) (option_map scoped_expression step) (scoped_statement body)) }
+fn for_of(line: u32, head: Head, body: Box<ScopedStmt>) -> ScopedStmt
+    ensures { scoped_statement result ≡ scoped.for line (scoped_statement head.first.value) (option_map scoped_expression head.test) (option_map scoped_expression head.step) (scoped_statement body.value) }
 {
-    let first = Box::new(alloc, first)?;
-    let body = Box::new(alloc, body)?;
-    Ok(ScopedStmt::For {
+    let Head { first, test, step } = head;
+    ScopedStmt::For {
         line,
         first,
         test,
         step,
         body,
-    })
+    }
+}
+
+/// A statement behind a label.
+fn label_of(alloc: Global, name: u32, of: ScopedStmt) -> Result<ScopedStmt, AllocError>
+    ensures { IfOk result (λ s. scoped_statement s ≡ scoped.label name (scoped_statement of)) }
+{
+    let of = Box::new(alloc, of)?;
+    Ok(ScopedStmt::Label { name, of })
 }
 
 /// A statement in a scope of its own, which is the body of a loop or not.
 #[cycle(resolve)]
-#[tactic(auto, unfolding(crate::specs::ScopedPrograms::scope_statement, lz_scopes::specs::Scopes::after))]
 fn resolve_within(
     alloc: Global,
     file: &WholeFile,
     place: &mut Place,
     in_loop: bool,
     s: &Stmt,
-) -> Result<ScopedStmt, Memory>
+) -> Result<Box<ScopedStmt>, Memory>
     ensures place { OnOk result (place.new ≡ scopes.behind place.old (scopes.after (within in_loop place.old) (statement s.now))) }
-    ensures tree { IfOk result (λ t. scoped_statement t ≡ spec.scope_statement file.now (within in_loop place.old) (statement s.now)) }
+    ensures tree { IfOk result (λ t. scoped_statement t.value ≡ spec.scope_statement file.now (within in_loop place.old) (statement s.now)) }
 {
     let was = place.in_loop;
     let mark = begin(place, in_loop)?;
     let scoped = resolve_stmt(alloc, file, place, s)?;
     end(place, mark, was);
-    Ok(scoped)
+    let boxed = Box::new(alloc, scoped)?;
+    Ok(boxed)
+}
+
+/// A test, and what stands under it in a scope of its own, which is the body of a loop or not.
+#[cycle(resolve)]
+fn resolve_tested(
+    alloc: Global,
+    file: &WholeFile,
+    place: &mut Place,
+    in_loop: bool,
+    s: &Stmt,
+    test: &Expr,
+) -> Result<(ScopedExpr, Box<ScopedStmt>), Memory>
+    ensures place { OnOk result (place.new ≡ scopes.behind place.old (scopes.after (within in_loop place.old) (statement s.now))) }
+    ensures test { IfOk result (λ t. scoped_expression t.0 ≡ spec.scope file.now place.old (expression test.now)) }
+    ensures tree { IfOk result (λ t. scoped_statement t.1.value ≡ spec.scope_statement file.now (within in_loop place.old) (statement s.now)) }
+{
+    let test = resolve_expr(alloc, file, place, test)?;
+    let body = resolve_within(alloc, file, place, in_loop, s)?;
+    Ok((test, body))
 }
 
 /// What stands behind `else`, if anything.
@@ -97,7 +163,6 @@ fn resolve_branch(
         None => Ok(None),
         Some(no) => {
             let no = resolve_within(alloc, file, place, false, no)?;
-            let no = Box::new(alloc, no)?;
             Ok(Some(no))
         }
     }
@@ -174,31 +239,18 @@ pub fn resolve_stmt(
             yes,
             no,
         } => {
-            let test = resolve_expr(alloc, file, place, test)?;
-            let yes = resolve_within(alloc, file, place, false, yes)?;
+            let tested = resolve_tested(alloc, file, place, false, yes, test)?;
             let no = resolve_branch(alloc, file, place, no)?;
-            let scoped = if_of(alloc, *line, test, yes, no)?;
-            Ok(scoped)
+            Ok(if_of(*line, tested.0, tested.1, no))
         }
         Stmt::While { line, test, body } => {
-            let test = resolve_expr(alloc, file, place, test)?;
-            let body = resolve_within(alloc, file, place, true, body)?;
-            let body = Box::new(alloc, body)?;
-            Ok(ScopedStmt::While {
-                line: *line,
-                test,
-                body,
-            })
+            let tested = resolve_tested(alloc, file, place, true, body, test)?;
+            Ok(while_of(*line, tested.0, tested.1))
         }
         Stmt::Do { line, body, test } => {
             let body = resolve_within(alloc, file, place, true, body)?;
-            let body = Box::new(alloc, body)?;
-            let test = resolve_expr(alloc, file, place, test)?;
-            Ok(ScopedStmt::Do {
-                line: *line,
-                body,
-                test,
-            })
+            let scoped = do_of(alloc, file, place, *line, body, test)?;
+            Ok(scoped)
         }
         Stmt::For {
             line,
@@ -209,13 +261,11 @@ pub fn resolve_stmt(
         } => {
             let was = place.in_loop;
             let mark = begin(place, false)?;
-            let head = resolve_stmt(alloc, file, place, first)?;
-            let test = resolve_optional(alloc, file, place, test)?;
-            let step = resolve_optional(alloc, file, place, step)?;
+            let first = resolve_stmt(alloc, file, place, first)?;
+            let head = head_of(alloc, file, place, first, test, step)?;
             let inner = resolve_within(alloc, file, place, true, body)?;
             end(place, mark, was);
-            let scoped = for_of(alloc, *line, head, test, step, inner)?;
-            Ok(scoped)
+            Ok(for_of(*line, head, inner))
         }
         Stmt::Break { line } => Ok(ScopedStmt::Break { line: *line }),
         Stmt::Continue { line } => Ok(ScopedStmt::Continue { line: *line }),
@@ -225,8 +275,8 @@ pub fn resolve_stmt(
         }
         Stmt::Label { name, of } => {
             let of = resolve_stmt(alloc, file, place, of)?;
-            let of = Box::new(alloc, of)?;
-            Ok(ScopedStmt::Label { name: *name, of })
+            let scoped = label_of(alloc, *name, of)?;
+            Ok(scoped)
         }
     }
 }

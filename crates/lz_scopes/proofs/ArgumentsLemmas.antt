@@ -7,7 +7,7 @@ use Rattle.lz_scopes.specs.declared.place.Place.{Place}
 use Rattle.lz_scopes.specs.declared.value_types.Want.{Want}
 use Rattle.lz_scopes.specs.Constants.{constant_value, is_constant, are_constant}
 use Rattle.lz_scopes.specs.Files.{File}
-use Rattle.lz_scopes.specs.ValueTypes.{rule_list}
+use Rattle.lz_scopes.specs.RuleLists.{rule_list}
 use Rattle.lz_scopes.specs.ExpressionTypes.{count, first_want, rest_of, misplaced, is_broken, some_misplaced, is_none_of}
 
 -- the item at a place, and what is behind it

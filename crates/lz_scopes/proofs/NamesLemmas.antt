@@ -4,7 +4,8 @@ use Rattle.std.proofs.lemmas.List.{length-append}
 use Rattle.std.proofs.lemmas.Bool.{cases_Bool, eqb-true}
 use Rattle.indexmap.specs.IndexMap.{IndexMap, get}
 use Rattle.lz_scopes.specs.declared.names.Entry.{Entry}
-use Rattle.lz_scopes.specs.Names.{or, nearest, place_from, hidden, flat, IsTable}
+use Rattle.lz_scopes.specs.Names.{or, nearest}
+use Rattle.lz_scopes.specs.Tables.{place_from, hidden, flat, IsTable}
 
 or_if : {A : Type 0} (b : Bool) (x : A) (p q : Option A) → or (if b then Some x else p) q ≡ (if b then Some x else or p q)
 or_if true x p q = refl

@@ -7,7 +7,8 @@ use Rattle.lz_tree.specs.Trees.{external_declaration}
 use Rattle.lz_scopes.specs.declared.signature.Signature.{Signature}
 use Rattle.lz_scopes.specs.Names.{or}
 use Rattle.lz_scopes.specs.Scopes.{signature_in, signatures}
-use Rattle.lz_scopes.specs.Files.{File, HasDefined, function_from, function_named, main_from, name_from}
+use Rattle.lz_scopes.specs.Files.{File, function_from, function_named, main_from, name_from}
+use Rattle.lz_scopes.specs.Defined.{HasDefined}
 use Rattle.lz_scopes.proofs.ArgumentsLemmas.{drop_item}
 
 -- ---- lists

@@ -1,5 +1,4 @@
--- Trusted: constant expressions and their values (C99 6.6): the type of a constant (6.4.4.1), and the kind in which an
--- operator computes (6.3.1.8).
+-- Trusted: constant expressions and their values (C99 6.6): the type of a constant (6.4.4.1), and the kind in which an operator computes (6.3.1.8).
 use Rattle.std.specs.Prelude.{◌≡◌, ℕ, ◌%◌, ◌==◌, nat_lt, nat_le, Bool, true, false, not, ◌&&◌, ◌||◌, Option, Some, None, if◌then◌else◌, IsTrue}
 use Rattle.lz_base.specs.declared.word.IntType.{IntType}
 use Rattle.lz_base.specs.declared.word.IntType.TheVariants.{Int, Unsigned}

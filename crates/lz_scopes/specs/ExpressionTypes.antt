@@ -112,12 +112,7 @@ abbrev pub unless : Bool → Rule → Option Rule
 unless true rule = None
 unless false rule = Some rule
 
--- the constant 0, in any spelling
-abbrev pub is_zero : Expression → Bool
-is_zero (constant line value form) = value == 0
-is_zero _ = false
-
--- `NULL` or the constant 0
+-- `NULL`, or the constant 0 in any spelling
 abbrev pub is_null : Expression → Bool
 is_null (null line) = true
 is_null (constant line value form) = value == 0
@@ -197,16 +192,18 @@ abbrev pub is_only_started : File → Option Signature → Bool
 is_only_started file None = false
 is_only_started file (Some f) = is_start_at (Some f) || is_main file f.name
 
-abbrev pub is_address_place : Want → Bool
-is_address_place (wants.Reference to) = true
-is_address_place _ = false
+-- a place that wants `&` of an object
+abbrev pub is_reference_place : Want → Bool
+is_reference_place (wants.Reference to) = true
+is_reference_place _ = false
 
 abbrev pub is_text_place : Want → Bool
 is_text_place wants.Format = true
 is_text_place _ = false
 
+-- a place that wants a `void *`
 abbrev pub is_pointer_place : Want → Bool
-is_pointer_place wants.Address = true
+is_pointer_place wants.Pointer = true
 is_pointer_place _ = false
 
 abbrev pub is_handle_place : Want → Bool
@@ -223,7 +220,7 @@ abbrev pub late_alone : Want → Expression → List Rule
 late_alone want (constant line value form) =
     if has_longs form then RefusedType ∷ [] else when (is_large value form) LargeConstant
 late_alone want (text line) = when (not (is_text_place want)) MisplacedText
-late_alone want (address line at name index) = when (not (is_address_place want)) MisplacedAddress
+late_alone want (address line at name index) = when (not (is_reference_place want)) MisplacedAddress
 late_alone want (cast line to of) = when (is_refused to) RefusedType
 late_alone want _ = []
 
@@ -330,7 +327,7 @@ module _ (file : File) (place : Place) where
   abbrev pub is_right : Want → Expression → Bool
   is_right want (constant line value form) = is_pointer_place want && value == 0
   is_right want (text line) = is_text_place want
-  is_right want (address line at name index) = is_address_place want
+  is_right want (address line at name index) = is_reference_place want
   is_right want (object line name index) =
       (is_handle_place want && is_handle place (object line name index))
       || (is_start_place want && is_function_name file place (object line name index))

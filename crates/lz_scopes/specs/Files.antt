@@ -1,7 +1,6 @@
--- Trusted: what is known of a whole file while it is walked, and how the code's tables say it.
-use Rattle.std.specs.Prelude.{◌≡◌, ℕ, ◌+◌, ◌==◌, Bool, true, false, List, [], ◌∷◌, map, codes, bytes_eq, Option, Some, None, if◌then◌else◌, slice_get, nat_eq}
+-- Trusted: what is known of a whole file while it is walked.
+use Rattle.std.specs.Prelude.{ℕ, ◌+◌, ◌==◌, Bool, false, List, [], ◌∷◌, map, codes, bytes_eq, Option, Some, None, if◌then◌else◌, slice_get}
 use Rattle.std.specs.List.{list_any}
-use Rattle.indexmap.specs.IndexMap.{IndexMap, get}
 use Rattle.lz_tree.specs.declared.expression.TypeName.{TypeName}
 use Rattle.lz_tree.specs.declared.scoped.KnownName.{KnownName}
 use Rattle.lz_tree.specs.Trees.{TranslationUnit}
@@ -72,10 +71,6 @@ is_reached file f = or_false (slice_get file.reached f)
 -- its body is too high
 abbrev pub is_high : File → ℕ → Bool
 is_high file f = or_false (slice_get file.high f)
-
--- The table has the first function of each name.
-pub record HasDefined {S : Type 0} (functions : List Signature) (defined : IndexMap ℕ ℕ S) : Type 0 where
-  pub same : (name : ℕ) → get nat_eq defined name ≡ function_named functions name
 
 -- ---- the file of a program
 

@@ -55,9 +55,9 @@ is_taken (Some _) = true
 abbrev pub wants_of_known : KnownName → List Want
 wants_of_known Assert = wants.Integer ∷ []
 wants_of_known Assume = wants.Integer ∷ []
-wants_of_known Create = wants.Reference sorts.Thread ∷ wants.Null ∷ wants.Start ∷ wants.Address ∷ []
+wants_of_known Create = wants.Reference sorts.Thread ∷ wants.Null ∷ wants.Start ∷ wants.Pointer ∷ []
 wants_of_known Join = wants.Handle ∷ wants.Null ∷ []
-wants_of_known Exit = wants.Address ∷ []
+wants_of_known Exit = wants.Pointer ∷ []
 wants_of_known MutexInit = wants.Reference sorts.Mutex ∷ wants.Null ∷ []
 wants_of_known MutexDestroy = wants.Reference sorts.Mutex ∷ []
 wants_of_known MutexLock = wants.Reference sorts.Mutex ∷ []

@@ -6,3 +6,6 @@ pub mod Scopes
 pub mod Files
 pub mod ExpressionTypes
 pub mod Views
+pub mod Tables
+pub mod Defined
+pub mod RuleLists

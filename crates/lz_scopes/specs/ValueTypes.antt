@@ -1,6 +1,5 @@
--- Trusted: what the spelled types are, which of them are refused and which two are one type, and which type fits a
--- place that wants a value (C99 6.2.5, 6.3 and 6.7.2).
-use Rattle.std.specs.Prelude.{◌≡◌, ℕ, ◌==◌, Bool, true, false, not, ◌&&◌, ◌||◌, List, [], ◌∷◌, Option, Some, None, if◌then◌else◌}
+-- Trusted: what the spelled types are, which of them are refused and which two are one type, and which type fits a place that wants a value (C99 6.2.5, 6.3 and 6.7.2).
+use Rattle.std.specs.Prelude.{Bool, true, false, ◌&&◌, List, [], ◌∷◌}
 use denote.Enum.Bare.{sameb}
 use Rattle.lz_base.specs.declared.word.IntType.{IntType}
 use Rattle.lz_base.specs.declared.word.IntType.TheVariants as kinds
@@ -121,15 +120,10 @@ abbrev pub when : Bool → Rule → List Rule
 when true rule = rule ∷ []
 when false rule = []
 
--- a rule that is broken, if any, as a list
-abbrev pub rule_list : Option Rule → List Rule
-rule_list None = []
-rule_list (Some rule) = rule ∷ []
-
 -- what a place wants that takes a value of a type
 abbrev pub want_of : ValueType → Want
 want_of (Integer kind) = wants.Integer
-want_of Pointer = wants.Address
+want_of Pointer = wants.Pointer
 want_of _ = wants.Any
 
 -- the rule that is broken where something of a type stands at a place: a value is needed, or one of another type.
@@ -141,7 +135,7 @@ clash want Cond = TypeMisfit ∷ []
 clash want Function = TypeMisfit ∷ []
 clash wants.Unneeded Nothing = []
 clash want Nothing = NoValue ∷ []
-clash wants.Address (Integer kind) = TypeMisfit ∷ []
+clash wants.Pointer (Integer kind) = TypeMisfit ∷ []
 clash want (Integer kind) = []
 clash wants.Integer Pointer = TypeMisfit ∷ []
 clash want Pointer = []

@@ -1,7 +1,7 @@
 ghost use Rattle.std.specs.Prelude.{◌≡◌, map, not, slice_get, Some};
 ghost use Rattle.lz_tree.specs.Trees.{expression, expressions_of, index_of};
 ghost use Rattle.lz_tree.specs.declared.scoped.Object.TheVariants.{Known};
-ghost use Rattle.lz_scopes.specs.ValueTypes.{rule_list};
+ghost use Rattle.lz_scopes.specs.RuleLists.{rule_list};
 ghost use Rattle.lz_scopes.specs.Constants.{constant_kind};
 ghost use Rattle.lz_scopes.specs.Scopes as scopes;
 ghost use Rattle.lz_scopes.specs.ExpressionTypes as spec;

@@ -3,7 +3,8 @@ ghost use Rattle.std.specs.List.{list_any};
 ghost use Rattle.lz_tree.specs.Trees.{external_declaration, translation_unit};
 ghost use Rattle.lz_scopes.specs.Files as spec;
 ghost use Rattle.lz_scopes.specs.Files.{params_of};
-ghost use Rattle.lz_scopes.specs.Files.{File, HasDefined, function_named, main_from, bare};
+ghost use Rattle.lz_scopes.specs.Files.{File, function_named, main_from, bare};
+ghost use Rattle.lz_scopes.specs.Defined.{HasDefined};
 ghost use Rattle.lz_scopes.specs.Scopes as scopes;
 
 use crate::signature::Signature;

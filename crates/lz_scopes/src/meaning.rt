@@ -1,6 +1,7 @@
 ghost use Rattle.std.specs.Prelude.{◌≡◌, drop, length, slice_get, map, Some};
 ghost use Rattle.lz_tree.specs.Trees.{expression, index_of};
-ghost use Rattle.lz_scopes.specs.ValueTypes.{rule_list, want_of, value_type};
+ghost use Rattle.lz_scopes.specs.ValueTypes.{want_of, value_type};
+ghost use Rattle.lz_scopes.specs.RuleLists.{rule_list};
 ghost use Rattle.lz_scopes.specs.declared.value_types.Want.TheVariants as wants;
 ghost use Rattle.lz_scopes.specs.Scopes as scopes;
 ghost use Rattle.lz_scopes.specs.KnownNames.{wants_of_known, takes_more, given_by_known};
@@ -129,10 +130,10 @@ pub fn known_wants(name: KnownName) -> &'static [Want]
             },
             Want::Null,
             Want::Start,
-            Want::Address,
+            Want::Pointer,
         ],
         KnownName::Join => &[Want::Handle, Want::Null],
-        KnownName::Exit => &[Want::Address],
+        KnownName::Exit => &[Want::Pointer],
         KnownName::MutexInit => &[
             Want::Reference {
                 to: ValueType::Mutex,

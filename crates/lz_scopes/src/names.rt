@@ -3,7 +3,8 @@ ghost use Rattle.std.specs.List.{list_any};
 ghost use Rattle.indexmap.specs.IndexMap.{get};
 ghost use Rattle.indexmap.specs.IndexSet.{contains};
 ghost use Rattle.lz_scopes.specs.declared.names.Entry.{Entry};
-ghost use Rattle.lz_scopes.specs.Names.{nearest, flat, IsTable, IsAmong};
+ghost use Rattle.lz_scopes.specs.Names.{nearest};
+ghost use Rattle.lz_scopes.specs.Tables.{flat, IsTable, IsAmong};
 
 use crate::value_types::ValueType;
 use indexmap::{IndexMap, IndexSet};

@@ -1,5 +1,6 @@
 ghost use Rattle.std.specs.Prelude.{◌≡◌};
 ghost use Rattle.lz_scopes.specs.ValueTypes as spec;
+ghost use Rattle.lz_scopes.specs.RuleLists.{rule_list};
 
 use crate::fault::Rule;
 use lz_base::IntType;
@@ -35,7 +36,7 @@ pub enum Want {
     /// An integer.
     Integer,
     /// A `void *`.
-    Address,
+    Pointer,
     /// `&` of an object of this type, as a call on threads wants it.
     Reference { to: ValueType },
     /// A thread object.
@@ -152,7 +153,7 @@ impl ValueType {
     {
         match self {
             ValueType::Integer { .. } => Want::Integer,
-            ValueType::Pointer => Want::Address,
+            ValueType::Pointer => Want::Pointer,
             _ => Want::Any,
         }
     }
@@ -160,11 +161,11 @@ impl ValueType {
 
 /// The rule that is broken where something of a type stands at a place.
 pub fn clash(want: Want, of: ValueType) -> Option<Rule>
-    ensures { spec.rule_list result ≡ spec.clash want of }
+    ensures { rule_list result ≡ spec.clash want of }
 {
     match of {
         ValueType::Integer { .. } => match want {
-            Want::Address => Some(Rule::TypeMisfit),
+            Want::Pointer => Some(Rule::TypeMisfit),
             _ => None,
         },
         ValueType::Pointer => match want {

@@ -1,4 +1,5 @@
--- Trusted: how many threads a program can create within so many turns of each loop: its slots.
+-- Trusted: the slots of a program: how many calls of `pthread_create` its `main` comes to where both ways of each test
+-- count, a loop counts its parts once for each of so many turns, and a call of a function counts that function's body.
 use Rattle.std.specs.Prelude.{ℕ, ◌+◌, ◌*◌, List, [], ◌∷◌, length, Option, Some, None}
 use Rattle.lz_tree.specs.declared.scoped.Object.{Object}
 use Rattle.lz_tree.specs.declared.scoped.Object.TheVariants.{Local, Cell, Mutex, Cond, Handle, Routine, Known}
@@ -126,7 +127,7 @@ abbrev pub sites_step : List ScopedDefinition → ℕ → (ℕ → ℕ) → (ℕ
 sites_step functions turns weights bodies f =
     statement_sites (record { turns = turns; weights = weights; bodies = bodies }) (body_at functions f)
 
--- the sites of a function's body, each counted with the number of the function that it starts
+-- the create sites of a function's body, each counted with the number of the function that it starts
 abbrev pub function_sites : List ScopedDefinition → ℕ → (ℕ → ℕ) → ℕ → ℕ
 function_sites functions turns weights f = through_calls (sites_step functions turns weights) (length functions) f
 

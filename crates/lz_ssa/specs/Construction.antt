@@ -1,5 +1,5 @@
--- Inner: the construction of nodes as the code makes it, statement by statement. No public clause speaks of
--- it.
+-- Inner: the construction of nodes as the code makes it, statement by statement.
+-- No public clause speaks of it.
 use Rattle.std.specs.Prelude.{ℕ, zero, suc, ◌+◌, ◌/◌, ◌%◌, nat_le, nat_lt, List, [], ◌∷◌, ◌++◌, length, map, slice_index, slice_index_or, slice_set, if◌then◌else◌}
 use Rattle.lz_base.specs.declared.operator.Unary.{Unary}
 use Rattle.lz_base.specs.declared.operator.Unary.TheVariants as unaries

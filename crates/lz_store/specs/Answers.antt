@@ -1,5 +1,5 @@
 -- Trusted: the answer of a store to an action, and its condition.
-use Rattle.std.specs.Prelude.{ℕ, ◌<◌, ◌≤◌, length, ⊤}
+use Rattle.std.specs.Prelude.{ℕ, ◌≤◌, ⊤}
 use Rattle.lz_model.specs.declared.actions.Action.{Action}
 use Rattle.lz_model.specs.declared.actions.Action.TheVariants.{Loc, Input, Check, Assume, Rd, Wr, Reset, Lock, Unlock, Park, Wake, Signal, Broadcast, Create, Join, HoldOn, HoldOff, End}
 use Rattle.lz_model.specs.Store.{State, went, blocked, broke}
@@ -23,23 +23,23 @@ state_behind before (broke kind) = before
 abbrev pub last_thread : ℕ
 last_thread = 16
 
--- the action names cells and mutexes of the state, and creates no thread past the last
-abbrev pub IsWithin : State → Action → Type 0
-IsWithin state Loc = ⊤
-IsWithin state (Input value) = ⊤
-IsWithin state (Check value kind) = ⊤
-IsWithin state (Assume value) = ⊤
-IsWithin state (Rd cell value) = cell < length state.cells
-IsWithin state (Wr cell value) = cell < length state.cells
-IsWithin state (Reset mutex) = mutex < length state.owners
-IsWithin state (Lock mutex) = mutex < length state.owners
-IsWithin state (Unlock mutex) = mutex < length state.owners
-IsWithin state (Park cond mutex) = mutex < length state.owners
-IsWithin state (Wake cond mutex) = mutex < length state.owners
-IsWithin state (Signal cond woken) = ⊤
-IsWithin state (Broadcast cond) = ⊤
-IsWithin state (Create thread start value) = thread ≤ last_thread
-IsWithin state (Join thread) = ⊤
-IsWithin state HoldOn = ⊤
-IsWithin state HoldOff = ⊤
-IsWithin state (End whole) = ⊤
+-- the action creates no thread past the last
+abbrev pub IsWithin : Action → Type 0
+IsWithin Loc = ⊤
+IsWithin (Input value) = ⊤
+IsWithin (Check value kind) = ⊤
+IsWithin (Assume value) = ⊤
+IsWithin (Rd cell value) = ⊤
+IsWithin (Wr cell value) = ⊤
+IsWithin (Reset mutex) = ⊤
+IsWithin (Lock mutex) = ⊤
+IsWithin (Unlock mutex) = ⊤
+IsWithin (Park cond mutex) = ⊤
+IsWithin (Wake cond mutex) = ⊤
+IsWithin (Signal cond woken) = ⊤
+IsWithin (Broadcast cond) = ⊤
+IsWithin (Create thread start value) = thread ≤ last_thread
+IsWithin (Join thread) = ⊤
+IsWithin HoldOn = ⊤
+IsWithin HoldOff = ⊤
+IsWithin (End whole) = ⊤

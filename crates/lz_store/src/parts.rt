@@ -1,8 +1,8 @@
-ghost use Rattle.std.specs.Prelude.{◌≡◌, ◌<◌, ◌≤◌, length, map, IfOk, if◌then◌else◌};
+ghost use Rattle.std.specs.Prelude.{◌≡◌, ◌<◌, ◌≤◌, length, slice_index, slice_set, map, IfOk, if◌then◌else◌};
 ghost use Rattle.std.specs.List.{list_any};
 ghost use Rattle.std.specs.Vec.{vec_capacity};
 ghost use Rattle.lz_model.specs.declared.actions.Action.TheVariants.{Check, Assume, Rd, Lock, Unlock, Park, Wake, Broadcast, HoldOn, HoldOff, End};
-ghost use Rattle.lz_model.specs.Store.{act, act_free, creates, signals, joins, opening, is_halted, held_by_another, is_now, waits_on, is_made, is_free, owns, woken_from, with_owner, with_thread};
+ghost use Rattle.lz_model.specs.Store.{act, act_free, creates, signals, joins, opening, is_halted, held_by_another, is_now, waits_on, is_made, is_free, owner_of, owns, woken_from, with_owner, with_thread};
 ghost use Rattle.lz_model.specs.Actions.{is_shared};
 ghost use Rattle.lz_store.specs.Answers.{answer_of, state_behind, IsWithin, last_thread};
 ghost use Rattle.lz_store.specs.Kept.{state_of, HasRoom};
@@ -150,12 +150,43 @@ impl Parts {
         }
     }
 
+    /// The value of a cell, or 0 where there is no such cell.
+    pub fn cell(&self, cell: u32) -> Value
+        ensures { result ≡ slice_index self.now.cells.items cell }
+    {
+        if (cell as usize) < self.cells.len() {
+            self.cells[cell as usize]
+        } else {
+            0
+        }
+    }
+
+    /// Writes a cell, where it is there.
+    fn write(&mut self, cell: u32, value: Value)
+        ensures state { state_of self.new ≡ record (state_of self.old) { cells = slice_set self.old.cells.items cell value } }
+        ensures room { vec_capacity self.new.threads ≡ vec_capacity self.old.threads }
+    {
+        if (cell as usize) < self.cells.len() {
+            self.cells[cell as usize] = value;
+        }
+    }
+
+    /// The owner of a mutex, or none where there is no such mutex.
+    fn owner(&self, mutex: u32) -> Option<u32>
+        ensures { result ≡ owner_of (state_of self.now) mutex }
+    {
+        if (mutex as usize) < self.owners.len() {
+            self.owners[mutex as usize]
+        } else {
+            None
+        }
+    }
+
     /// Whether the mutex has no owner.
     fn is_unowned(&self, mutex: u32) -> bool
-        requires { mutex < length self.now.owners.items }
         ensures { result ≡ is_free (state_of self.now) mutex }
     {
-        match self.owners[mutex as usize] {
+        match self.owner(mutex) {
             Some(_) => false,
             None => true,
         }
@@ -163,22 +194,22 @@ impl Parts {
 
     /// Whether the thread owns the mutex.
     fn is_owner(&self, thread: u32, mutex: u32) -> bool
-        requires { mutex < length self.now.owners.items }
         ensures { result ≡ owns (state_of self.now) thread mutex }
     {
-        match self.owners[mutex as usize] {
+        match self.owner(mutex) {
             Some(owner) => owner == thread,
             None => false,
         }
     }
 
-    /// Gives the mutex an owner, or none.
+    /// Gives the mutex an owner, or none, where it is there.
     fn set_owner(&mut self, mutex: u32, owner: Option<u32>)
-        requires { mutex < length self.old.owners.items }
         ensures state { state_of self.new ≡ with_owner (state_of self.old) mutex owner }
         ensures room { vec_capacity self.new.threads ≡ vec_capacity self.old.threads }
     {
-        self.owners[mutex as usize] = owner;
+        if (mutex as usize) < self.owners.len() {
+            self.owners[mutex as usize] = owner;
+        }
     }
 
     /// Puts what is kept of a thread.
@@ -192,7 +223,6 @@ impl Parts {
 
     /// A lock of a mutex.
     fn lock(&mut self, thread: u32, mutex: u32) -> Acted
-        requires { mutex < length self.old.owners.items }
         ensures answer { result ≡ answer_of (act_free (state_of self.old) thread (Lock mutex)) }
         ensures state { state_of self.new ≡ state_behind (state_of self.old) (act_free (state_of self.old) thread (Lock mutex)) }
         ensures room { vec_capacity self.new.threads ≡ vec_capacity self.old.threads }
@@ -206,7 +236,6 @@ impl Parts {
 
     /// An unlock of a mutex.
     fn unlock(&mut self, thread: u32, mutex: u32) -> Acted
-        requires { mutex < length self.old.owners.items }
         ensures answer { result ≡ answer_of (act_free (state_of self.old) thread (Unlock mutex)) }
         ensures state { state_of self.new ≡ state_behind (state_of self.old) (act_free (state_of self.old) thread (Unlock mutex)) }
         ensures room { vec_capacity self.new.threads ≡ vec_capacity self.old.threads }
@@ -223,8 +252,7 @@ impl Parts {
 
     /// The first half of a wait: the thread gives up the mutex and waits.
     fn park(&mut self, thread: u32, cond: u32, mutex: u32) -> Acted
-        requires mutex { mutex < length self.old.owners.items }
-        requires thread { thread < length self.old.threads.items }
+        requires { thread < length self.old.threads.items }
         ensures answer { result ≡ answer_of (act_free (state_of self.old) thread (Park cond mutex)) }
         ensures state { state_of self.new ≡ state_behind (state_of self.old) (act_free (state_of self.old) thread (Park cond mutex)) }
         ensures room { vec_capacity self.new.threads ≡ vec_capacity self.old.threads }
@@ -246,8 +274,7 @@ impl Parts {
 
     /// The second half of a wait: the thread was woken and takes the mutex.
     fn wake(&mut self, thread: u32, cond: u32, mutex: u32) -> Acted
-        requires mutex { mutex < length self.old.owners.items }
-        requires thread { thread < length self.old.threads.items }
+        requires { thread < length self.old.threads.items }
         ensures answer { result ≡ answer_of (act_free (state_of self.old) thread (Wake cond mutex)) }
         ensures state { state_of self.new ≡ state_behind (state_of self.old) (act_free (state_of self.old) thread (Wake cond mutex)) }
         ensures room { vec_capacity self.new.threads ≡ vec_capacity self.old.threads }
@@ -387,12 +414,11 @@ impl Parts {
 
     /// A read of a cell.
     fn read(&self, thread: u32, cell: u32, value: Value) -> Acted
-        requires { cell < length self.now.cells.items }
         ensures answer { result ≡ answer_of (act_free (state_of self.now) thread (Rd cell value)) }
         ensures state { state_of self.now ≡ state_behind (state_of self.now) (act_free (state_of self.now) thread (Rd cell value)) }
     {
         let _ = thread;
-        if self.cells[cell as usize] == value {
+        if self.cell(cell) == value {
             Acted::Went
         } else {
             Acted::Blocked
@@ -427,7 +453,7 @@ impl Parts {
 
     /// What an action comes to of a thread that is neither at rest nor kept out by a holder.
     fn act_on(&mut self, thread: u32, action: &Action) -> Acted
-        requires within { IsWithin (state_of self.old) action.now }
+        requires within { IsWithin action.now }
         requires thread { thread < length self.old.threads.items }
         requires room { HasRoom self.old }
         ensures answer { result ≡ answer_of (act_free (state_of self.old) thread action.now) }
@@ -440,7 +466,7 @@ impl Parts {
             Action::Assume { value } => self.assume(thread, value),
             Action::Rd { cell, value } => self.read(thread, cell, value),
             Action::Wr { cell, value } => {
-                self.cells[cell as usize] = value;
+                self.write(cell, value);
                 Acted::Went
             }
             Action::Reset { mutex } => {
@@ -463,7 +489,7 @@ impl Parts {
 
     /// Does an action of a thread, where it goes.
     pub fn act(&mut self, thread: u32, action: &Action) -> Acted
-        requires within { IsWithin (state_of self.old) action.now }
+        requires within { IsWithin action.now }
         requires room { HasRoom self.old }
         ensures answer { result ≡ answer_of (act (state_of self.old) thread action.now) }
         ensures state { state_of self.new ≡ state_behind (state_of self.old) (act (state_of self.old) thread action.now) }

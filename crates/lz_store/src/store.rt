@@ -1,4 +1,4 @@
-ghost use Rattle.std.specs.Prelude.{◌≡◌, ◌<◌, ◌≤◌, length, slice_index, IfOk};
+ghost use Rattle.std.specs.Prelude.{◌≡◌, slice_index, IfOk};
 ghost use Rattle.lz_tree.specs.ScopedTrees.{scoped_program};
 ghost use Rattle.lz_model.specs.Store.{act, opening};
 ghost use Rattle.lz_store.specs.Answers.{answer_of, state_behind, IsWithin};
@@ -49,21 +49,21 @@ impl Store {
         Ok(Store { parts })
     }
 
-    /// Does an action of a thread, where it goes. Takes no memory. The time is that of a look at the action's cell,
+    /// Does an action of a thread, where it goes. A cell that is not there is read as 0 and not written, and a mutex that
+    /// is not there has no owner. Takes no memory. The time is that of a look at the action's cell,
     /// mutex or thread; a signal and a broadcast look at each thread.
     pub fn act(&mut self, thread: u32, action: &Action) -> Acted
-        requires { IsWithin self.old action.now }
+        requires { IsWithin action.now }
         ensures answer { result ≡ answer_of (act self.old thread action.now) }
         ensures state { self.new ≡ state_behind self.old (act self.old thread action.now) }
     {
         self.parts.act(thread, action)
     }
 
-    /// The value of a cell. Takes no memory.
+    /// The value of a cell, which is 0 where there is no such cell. Takes no memory.
     pub fn cell(&self, cell: u32) -> Value
-        requires { cell < length self.now.cells }
         ensures { result ≡ slice_index self.now.cells cell }
     {
-        self.parts.cells[cell as usize]
+        self.parts.cell(cell)
     }
 }

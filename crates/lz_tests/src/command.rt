@@ -554,6 +554,15 @@ fn limits(rt: HostRuntime) -> Result<(), Fail> {
             4,
             "a node of height 201",
         ),
+        (
+            "int main(void) { return ",
+            198,
+            "(",
+            "0)))))))))))))))))))))))))))))))))))))))))))))))))))))))))))))))))))))))))))))))))))))))))))))))))))))))))))))))))))))))))))))))))))))))))))))))))))))))))))))))))))))))))))))))))))))))))))))))))))))); }",
+            "SOURCE line 1 token 204: not a program\n",
+            4,
+            "a node of height 201, in a whole program",
+        ),
     ] {
         let source = repeated(rt.alloc(), before, times, part, behind)
             .ok()

@@ -8,7 +8,7 @@ use std::alloc::Global;
 use std::test::Fail;
 
 /// A program for each rule that breaks it.
-const BROKEN: [Row; 24] = [
+const BROKEN: [Row; 28] = [
     (
         "int main(void) {\n return y; }",
         "SOURCE line 2 rule 1\n",
@@ -152,6 +152,30 @@ const BROKEN: [Row; 24] = [
         "SOURCE line 2 rule 25\n",
         4,
         "rule 25: what breaks it",
+    ),
+    (
+        "int main(void) { return y + f(); }",
+        "SOURCE line 1 rule 1\n",
+        4,
+        "the first of two faults in the order of the text",
+    ),
+    (
+        "int main(void) { break; }",
+        "SOURCE line 1 rule 12\n",
+        4,
+        "the fault stands on the first line",
+    ),
+    (
+        "long x; int main(void){}",
+        "SOURCE line 1 rule 24\n",
+        4,
+        "a type that is read and refused",
+    ),
+    (
+        "int f(int n) { return f(n); } int main(void) { return f(1); }",
+        "SOURCE line 1 rule 14\n",
+        4,
+        "the call in the function itself comes first",
     ),
 ];
 
@@ -646,7 +670,7 @@ fn arrays(alloc: Global, count: u32, behind: &str) -> Result<Bytes, Memory> {
 #[test]
 fn rules_of_large_files(rt: HostRuntime) -> Result<(), Fail> {
     let alloc = rt.alloc();
-    let towers: [(u32, &str, &str, u8); 3] = [
+    let towers: [(u32, &str, &str, u8); 4] = [
         (
             334,
             "void g(int a){ f333(); } int main(void) { }",
@@ -660,6 +684,7 @@ fn rules_of_large_files(rt: HostRuntime) -> Result<(), Fail> {
             4,
         ),
         (334, "int main(void) { }", NOT_BUILT, 12),
+        (335, "int main(void){}", "SOURCE line 335 rule 26\n", 4),
     ];
     for (functions, behind, report, status) in towers {
         let text = tower(alloc, functions, behind).ok().ok_or("memory")?;

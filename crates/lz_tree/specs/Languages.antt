@@ -1,5 +1,4 @@
--- Trusted: which tokens a text of the language consists of: one token, a text behind another, and the line of the
--- first token.
+-- Trusted: which tokens a text of the language consists of: one token, a text behind another, and the line of the first token.
 use Rattle.std.specs.Prelude.{◌≡◌, ℕ, Bool, false, List, [], ◌∷◌, ◌++◌, Option, Some, None, if◌then◌else◌}
 use denote.Enum.Bare.{sameb}
 use Rattle.lz_tree.specs.declared.token.Token.{Token}

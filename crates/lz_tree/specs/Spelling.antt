@@ -1,5 +1,4 @@
--- Trusted: which tokens spell a tree, production by production (C99 6.5 to 6.9), with the line of the first token of
--- each node and part that has a line.
+-- Trusted: which tokens spell a tree, production by production (C99 6.5 to 6.9), with the line of the first token of each node and part that has a line.
 use Rattle.std.specs.Prelude.{◌≡◌, ℕ, Bool, true, false, List, [], ◌∷◌, Option, Some, None, map}
 use Rattle.lz_base.specs.declared.operator.Unary.{Unary}
 use Rattle.lz_base.specs.declared.operator.Unary.TheVariants as signs

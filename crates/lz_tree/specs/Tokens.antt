@@ -1,5 +1,4 @@
--- Trusted: the tokens of a file: its bytes are cut from the front, each piece the longest that can stand where it
--- begins, and defined names are replaced (C99 6.4, 6.10.3).
+-- Trusted: the tokens of a file: its bytes are cut from the front, each piece the longest that can stand where it begins, and defined names are replaced (C99 6.4, 6.10.3).
 use Rattle.std.specs.Prelude.{◌≡◌, ℕ, zero, suc, ◌+◌, ◌-◌, Bool, true, false, not, ◌&&◌, ◌||◌, List, [], ◌∷◌, ◌++◌, length, take, drop, map, count_by, if◌then◌else◌, Option, Some, None, find, option_map}
 use Rattle.std.specs.List.{list_any}
 use Rattle.std.specs.Option.{option_or}

@@ -1,5 +1,4 @@
--- Trusted: which trees are well formed: levels of operands, `else` at the nearest `if`, heights, and lists that are not
--- empty.
+-- Trusted: which trees are well formed: levels of operands, `else` at the nearest `if`, heights, and lists that are not empty.
 use Rattle.std.specs.Prelude.{◌≡◌, ◌≢◌, ℕ, ◌≤◌, ◌<◌, Bool, true, false, List, [], ◌∷◌, Option, Some, None, IsSome}
 use Rattle.std.specs.List.{AllByRecursion}
 use Rattle.lz_base.specs.declared.operator.Binary.{Binary}
@@ -175,11 +174,15 @@ FitsExternal (prototype line lead gives name params void_word) = fits_params voi
 FitsExternal (function line hidden gives name params void_word body) =
     (fits_params void_word params ≡ true) × AllByRecursion (λ p. IsSome p.name) params × (is_block body ≡ true) × FitsStatement body
 
--- a program: at least one external declaration, each as the grammar writes it, of height at most 200
+-- the height that a program may have
+unfoldable pub height_limit : ℕ
+height_limit = 200
+
+-- a program: at least one external declaration, each as the grammar writes it, of no greater height
 pub record IsWellFormed (u : TranslationUnit) : Type 0 where
   pub some : u.externals ≢ []
   pub fits : AllByRecursion FitsExternal u.externals
-  pub low : height u ≤ 200
+  pub low : height u ≤ height_limit
 
 -- ---- what spells a tree of at most some height
 

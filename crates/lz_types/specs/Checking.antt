@@ -1,12 +1,9 @@
--- Trusted: what a check of a program answers: the first rule that it breaks, or the scoped program.
-use Rattle.std.specs.Prelude.{◌≡◌, ℕ, List, [], ◌∷◌, Result, Ok, Err}
+-- Trusted: the numbers of the rules, and which list has all rules that a program breaks.
+use Rattle.std.specs.Prelude.{◌≡◌, ℕ, List}
 use Rattle.lz_tree.specs.Trees.{TranslationUnit}
-use Rattle.lz_tree.specs.ScopedTrees.{ScopedProgram}
 use Rattle.lz_scopes.specs.declared.fault.Fault.{Fault}
 use Rattle.lz_scopes.specs.declared.fault.Rule.{Rule}
 use Rattle.lz_scopes.specs.declared.fault.Rule.TheVariants.{Undeclared, DeclaredTwice, NoFunction, ArgumentCount, KnownNameTaken, NoValue, TypeMisfit, BadLength, NotConstant, BadInitializer, LargeConstant, OutsideLoop, BadReturn, Recursive, NoMain, NoStartRoutine, ThreadInThread, PointerOutsideStart, LocalMutex, MisplacedAddress, BadAttribute, MisplacedText, ManyElements, RefusedType, OtherPrototype, TooHigh}
-use Rattle.lz_scopes.specs.declared.fault.TypeError.{TypeError}
-use Rattle.lz_scopes.specs.declared.fault.TypeError.TheVariants as errors
 use Rattle.lz_scopes.specs.Files.{Facts, file_with}
 use Rattle.lz_resolve.specs.ScopedPrograms.{scoped_of}
 use Rattle.lz_calls.specs.Calls.{AreFacts}
@@ -46,11 +43,3 @@ pub record AreFaults (unit : TranslationUnit) (list : List Fault) : Type 0 where
   pub facts : Facts
   pub right : AreFacts (scoped_of unit).functions facts
   pub listed : list ≡ file_faults (file_with unit facts) unit.externals
-
--- The answer on a program: its scoped program where it breaks no rule, and otherwise the first rule in the list of
--- those that it breaks, with its line. Want of memory may be answered at any time.
-abbrev pub Answers : {X : Type 0} → (X → ScopedProgram) → TranslationUnit → Result X TypeError → Type 0
-Answers view unit (Ok x) = AreFaults unit [] × (view x ≡ scoped_of unit)
-Answers view unit (Err (errors.Rule line number)) =
-    (first : Fault) × (rest : List Fault) × AreFaults unit (first ∷ rest) × (line ≡ first.line) × (number ≡ number_of first.rule)
-Answers view unit (Err errors.Memory) = Unit {0}

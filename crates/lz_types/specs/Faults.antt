@@ -1,5 +1,5 @@
--- Trusted: the list of all rules that a program breaks, in the order of the text: at each node its own ones by number,
--- and then those of its parts from left to right. It is read with what is known of the whole file.
+-- Trusted: the list of all rules that a program breaks, in the order of the text: at each node its own ones by number, and then those of its parts from left to right.
+-- It is read with what is known of the whole file.
 use Rattle.std.specs.Prelude.{ℕ, nat_lt, Bool, true, false, not, ◌&&◌, ◌||◌, List, [], ◌∷◌, ◌++◌, map, length, Option, Some, None, is_some, if◌then◌else◌, slice_get}
 use Rattle.lz_tree.specs.declared.expression.TypeName.{TypeName}
 use Rattle.lz_tree.specs.declared.expression.TypeName.TheVariants as types
@@ -180,7 +180,7 @@ declaration_faults file place d =
 
 -- ---- statements
 
--- a `return` has a value in a function without result, or none in one with a result
+-- a `return` has a value in a function whose result is `void`, or none in one whose result is another type
 abbrev pub is_bad_return : TypeName → Option Expression → Bool
 is_bad_return gives None = not (is_nothing (value_type gives))
 is_bad_return gives (Some e) = is_nothing (value_type gives)
@@ -227,11 +227,12 @@ module _ (file : File) where
 
 -- ---- parameters
 
--- a parameter of the name is declared before, or the name may not be taken
+-- an object of the parameter's name is declared before in the same scope
 abbrev pub is_repeated : Place → Option ℕ → Bool
 is_repeated place None = false
 is_repeated place (Some name) = has_object place name
 
+-- the parameter's name may not be taken
 abbrev pub takes_known_if : File → Option ℕ → Bool
 takes_known_if file None = false
 takes_known_if file (Some name) = takes_known file name
@@ -253,7 +254,8 @@ params_faults file place start (p ∷ rest) =
 
 -- ---- external declarations
 
--- a prototype and a definition differ: an empty list fits every one
+-- A prototype differs from the definition of its name, if there is one: in the type of its result, or in those of its
+-- parameters, one by one; but where it has no parameter and its list does not say `void`, any parameters fit.
 abbrev pub is_other : TypeName → List TypeName → Bool → Option Signature → Bool
 is_other gives params void_word None = false
 is_other gives params void_word (Some f) =

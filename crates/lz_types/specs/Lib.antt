@@ -1,3 +1,4 @@
 pub mod Faults
 pub mod Parts
 pub mod Checking
+pub mod Answering

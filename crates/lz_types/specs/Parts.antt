@@ -19,7 +19,8 @@ is_one_at base (Some other) = are_one_type base other
 abbrev pub has_start_form : TypeName → List Param → Bool
 has_start_form gives params = is_pointer (value_type gives) && is_one_pointer (bases params)
 
--- the parameters of a prototype differ from those of a definition: an empty list fits every one
+-- The parameters of a prototype differ from those of a definition; where it has none and its list does not say `void`,
+-- any fit.
 abbrev pub params_differ : List TypeName → Bool → List TypeName → Bool
 params_differ [] false others = false
 params_differ [] true others = not (are_one_list [] others)

@@ -5,6 +5,7 @@ ghost use Rattle.lz_tree.specs.Calls.{IsCallOrder};
 ghost use Rattle.lz_scopes.specs.Files.{bare};
 ghost use Rattle.lz_resolve.specs.ScopedPrograms.{scoped_of};
 ghost use Rattle.lz_calls.specs.Facts.{IsOrderOf, facts_of};
+ghost use Rattle.lz_types.specs.Answering.{Answers};
 ghost use Rattle.lz_types.specs.Checking as spec;
 ghost use Rattle.lz_types.specs.Parts.{with_facts};
 
@@ -153,7 +154,7 @@ fn answer(program: Program, scoped: Scoped, found: Found) -> Result<Checked, Typ
     requires scoped { scoped_program scoped ≡ scoped_of (translation_unit program) }
     requires faults { spec.AreFaults (translation_unit program) found.faults.items }
     requires order { IsOrderOf (scoped_of (translation_unit program)).functions found.order }
-    ensures answer { spec.Answers (λ c. scoped_program c.scoped) (translation_unit program) result }
+    ensures answer { Answers (λ c. scoped_program c.scoped) (translation_unit program) result }
     ensures program { IfOk result (λ c. c.program ≡ program) }
     ensures order { IfOk result (λ c. IsCallOrder (scoped_program c.scoped).functions c.order.items) }
 {
@@ -177,9 +178,10 @@ fn answer(program: Program, scoped: Scoped, found: Found) -> Result<Checked, Typ
 
 /// Checks a program against the rules (C99 6.2 to 6.9). The answer is the program with its scoped one and an order of
 /// its calls, or the first rule in the order of the text that it breaks, with its line; or want of memory. The work is
-/// the size of the tree times its height, and the square of the number of functions and their calls.
+/// the size of the tree times its height. Where a call comes back to its caller, or leads to no function, it is that
+/// and the number of functions times that of the functions and calls together.
 pub fn check(alloc: Global, program: Program) -> Result<Checked, TypeError>
-    ensures answer { spec.Answers (λ c. scoped_program c.scoped) (translation_unit program) result }
+    ensures answer { Answers (λ c. scoped_program c.scoped) (translation_unit program) result }
     ensures program { IfOk result (λ c. c.program ≡ program) }
     ensures order { IfOk result (λ c. IsCallOrder (scoped_program c.scoped).functions c.order.items) }
 {

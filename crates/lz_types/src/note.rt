@@ -1,6 +1,7 @@
 ghost use Rattle.std.specs.Prelude.{◌≡◌, ◌++◌, OnOk};
 ghost use Rattle.lz_tree.specs.Trees.{expression};
-ghost use Rattle.lz_scopes.specs.ValueTypes.{rule_list, when};
+ghost use Rattle.lz_scopes.specs.ValueTypes.{when};
+ghost use Rattle.lz_scopes.specs.RuleLists.{rule_list};
 ghost use Rattle.lz_types.specs.Faults as faults_of;
 
 use lz_base::Memory;

@@ -1,6 +1,6 @@
 ghost use Rattle.std.specs.Prelude.{◌≡◌, ◌++◌, [], map, option_map, OnOk};
 ghost use Rattle.lz_tree.specs.Trees.{expression, expressions_of, index_of, object};
-ghost use Rattle.lz_scopes.specs.ValueTypes.{rule_list};
+ghost use Rattle.lz_scopes.specs.RuleLists.{rule_list};
 ghost use Rattle.lz_scopes.specs.ExpressionTypes as spec;
 ghost use Rattle.lz_types.specs.Faults as faults_of;
 
@@ -42,7 +42,7 @@ fn is_right(file: &WholeFile, place: &Place, want: Want, e: &Expr) -> bool
     ensures { result ≡ spec.is_right file.now place.now want (expression e.now) }
 {
     match e {
-        Expr::Constant { value, .. } => matches!(want, Want::Address) && *value == 0,
+        Expr::Constant { value, .. } => matches!(want, Want::Pointer) && *value == 0,
         Expr::Text { .. } => matches!(want, Want::Format),
         Expr::Address { .. } => matches!(want, Want::Reference { .. }),
         Expr::Object { .. } => {

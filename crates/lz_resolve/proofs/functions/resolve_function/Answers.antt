@@ -1,29 +1,30 @@
 use Rattle.std.proofs.Common.{refl, ◌∙◌}
 use Rattle.lz_tree.specs.Trees.{statement}
 use Rattle.lz_tree.specs.ScopedTrees.{scoped_statement}
-use Rattle.lz_resolve.proofs.FunctionsLemmas.{InFunction, in_body, body_closable, body_deep, past_body, made_function}
+use Rattle.lz_scopes.proofs.PlacesLemmas.{InFunction, in_function, leavable, below_top, function_behind}
+use Rattle.lz_resolve.proofs.FunctionsLemmas.{made_function}
 use Rattle.lz_resolve.proofs.functions.resolve_function.Goals as goal
 
 pub leave_function-requires-clause-mark : goal.leave_function-requires-clause-mark
 leave_function-requires-clause-mark c =
-    let k : InFunction c.args.place.now c.args.name c.resolve_body.new.place =
-    in_body c.args.place.now _ _ c.resolve_body.new.place c.args.gives c.args.name c.args.params.now (statement c.args.body.now)
+    let k : InFunction c.args.place.now c.resolve_body.new.place c.args.name =
+    in_function c.args.place.now _ _ c.resolve_body.new.place c.args.name c.args.gives c.args.params.now (statement c.args.body.now)
     c.in_ok-outer.ensures.place c.in_ok-declare_params.ensures c.in_ok-body.ensures.place in
-    body_closable c.args.place.now c.resolve_body.new.place c.args.name c.in_ok-outer.outer k c.in_ok-outer.ensures.outer
+    leavable c.args.place.now c.resolve_body.new.place c.args.name c.in_ok-outer.outer k c.in_ok-outer.ensures.outer
 
 pub leave_function-requires-clause-depth : goal.leave_function-requires-clause-depth
 leave_function-requires-clause-depth c =
-    body_deep c.args.place.now c.resolve_body.new.place c.args.name
-    (in_body c.args.place.now _ _ c.resolve_body.new.place c.args.gives c.args.name c.args.params.now (statement c.args.body.now)
+    below_top c.args.place.now c.resolve_body.new.place c.args.name
+    (in_function c.args.place.now _ _ c.resolve_body.new.place c.args.name c.args.gives c.args.params.now (statement c.args.body.now)
     c.in_ok-outer.ensures.place c.in_ok-declare_params.ensures c.in_ok-body.ensures.place)
 
 pub returns-clause-place : goal.returns-clause-place
 returns-clause-place c =
-    let k : InFunction c.args.place.now c.args.name c.resolve_body.new.place =
-    in_body c.args.place.now _ _ c.resolve_body.new.place c.args.gives c.args.name c.args.params.now (statement c.args.body.now)
+    let k : InFunction c.args.place.now c.resolve_body.new.place c.args.name =
+    in_function c.args.place.now _ _ c.resolve_body.new.place c.args.name c.args.gives c.args.params.now (statement c.args.body.now)
     c.in_ok-outer.ensures.place c.in_ok-declare_params.ensures c.in_ok-body.ensures.place in
     c.in_ok-leave_function.ensures
-    ∙ (past_body c.args.place.now c.resolve_body.new.place c.args.name c.in_ok-outer.outer k c.in_ok-outer.ensures.outer
+    ∙ (function_behind c.args.place.now c.resolve_body.new.place c.args.name c.in_ok-outer.outer k c.in_ok-outer.ensures.outer
     ∙ rw (c.in_ok-body.ensures.place, c.in_ok-declare_params.ensures, c.in_ok-outer.ensures.place) refl)
 
 pub returns-clause-tree : goal.returns-clause-tree

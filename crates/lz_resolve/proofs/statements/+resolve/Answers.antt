@@ -43,22 +43,22 @@ pub resolve_stmt-end-requires-clause-mark : goal.resolve_stmt-end-requires-claus
 resolve_stmt-end-requires-clause-mark t c =
     closable c.args.place.now c.resolve_within-in-For.new.place _
     (in_for c.args.place.now _ c.resolve_stmt.new.place c.resolve_within-in-For.new.place (after (within true c.resolve_stmt.new.place) (statement c.deref-in-For-2.result.now)) _
-    c.in_ok-mark-in-For.ensures.place c.in_ok-head-in-For.ensures.place c.in_ok-inner-in-For.ensures.place)
+    c.in_ok-mark-in-For.ensures.place c.in_ok-first-in-For.ensures.place c.in_ok-inner-in-For.ensures.place)
     c.in_ok-mark-in-For.ensures.mark
 
 pub resolve_stmt-end-requires-clause-depth : goal.resolve_stmt-end-requires-clause-depth
 resolve_stmt-end-requires-clause-depth t c =
     deep c.args.place.now c.resolve_within-in-For.new.place
     (in_for c.args.place.now _ c.resolve_stmt.new.place c.resolve_within-in-For.new.place (after (within true c.resolve_stmt.new.place) (statement c.deref-in-For-2.result.now)) _
-    c.in_ok-mark-in-For.ensures.place c.in_ok-head-in-For.ensures.place c.in_ok-inner-in-For.ensures.place)
+    c.in_ok-mark-in-For.ensures.place c.in_ok-first-in-For.ensures.place c.in_ok-inner-in-For.ensures.place)
 
-pub resolve_stmt-returns-in_ok-scoped-in-For-clause-place : goal.resolve_stmt-returns-in_ok-scoped-in-For-clause-place
+pub resolve_stmt-returns-in_ok-inner-in-For-clause-place : goal.resolve_stmt-returns-in_ok-inner-in-For-clause-place
 unfolding after
-resolve_stmt-returns-in_ok-scoped-in-For-clause-place t c =
+resolve_stmt-returns-in_ok-inner-in-For-clause-place t c =
     rw c.in-For.is
     (c.end.ensures
     ∙ for_behind c.args.place.now _ c.resolve_stmt.new.place c.resolve_within-in-For.new.place _ (statement c.in-For.first.value) (statement c.in-For.body.value)
-    c.in_ok-mark-in-For.ensures.place (rw c.deref-in-For.ensures at c.in_ok-head-in-For.ensures.place)
+    c.in_ok-mark-in-For.ensures.place (rw c.deref-in-For.ensures at c.in_ok-first-in-For.ensures.place)
     (rw c.deref-in-For-2.ensures at c.in_ok-inner-in-For.ensures.place) c.in_ok-mark-in-For.ensures.mark)
 
 pub resolve_stmt-returns-in_ok-parts-in-Block-clause-place : goal.resolve_stmt-returns-in_ok-parts-in-Block-clause-place

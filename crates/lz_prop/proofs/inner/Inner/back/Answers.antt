@@ -16,7 +16,7 @@ shorten-requires-clause-within c =
     let within = start_within t c.args.level c.requires.kept (omega arith) in
     omega arith
 
-is_back : (c : goal.After-self-then-level-len-1) → IsBack c.args.self.now (record c.args.self.now { table = c.shorten.new.self; starts = c.truncate.new.self; head = c.index.result.now; seen = c.len-self.result }) c.args.level
+is_back : (c : goal.After-truncate-then-level-len) → IsBack c.args.self.now (record c.args.self.now { table = c.shorten.new.self; starts = c.truncate.new.self; fronts = c.truncate-then-level-len.new.self; head = c.index-then-level-len.result.now }) c.args.level
 is_back c =
     let t = c.args.self.now in
     let n = t.starts.ok.0 in
@@ -27,6 +27,7 @@ is_back c =
       below = omega arith;
       variables = refl;
       store = refl;
+      watch = refl;
       table = subst (λ (n : ℕ). IsTable n c.shorten.new.self.truths.items c.shorten.new.self.levels.items c.shorten.new.self.reasons.items c.shorten.new.self.order.items) long c.shorten.ensures.table;
       levels = c.shorten.ensures.levels;
       reasons = c.shorten.ensures.reasons;
@@ -34,8 +35,10 @@ is_back c =
       order_room = c.shorten.ensures.room;
       starts = c.truncate.ensures.items;
       starts_room = c.truncate.ensures.capacity;
-      head = at;
-      seen = c.len-self.ensures;
+      fronts = c.truncate-then-level-len.ensures.items;
+      fronts_room = c.truncate-then-level-len.ensures.capacity;
+      head = c.index-then-level-len.ensures ∙ get_or_default t.fronts.items c.args.level c.index-then-level-len.result.now 0 (let long = c.requires.kept.fronts.long in omega arith);
+      seen = refl;
       spent = refl;
     }
 

@@ -1,6 +1,6 @@
 use Rattle.std.proofs.Common.{◌∙◌, arith}
 use Rattle.lz_prop.proofs.KeptLemmas.{order_fits, further_join}
-use Rattle.lz_prop.proofs.VisitLemmas.{head_kept, head_further}
+use Rattle.lz_prop.proofs.WalkLemmas.{head_kept, head_further}
 use Rattle.lz_prop.proofs.inner.Inner.handle.Goals as goal
 
 pub loop-self-preserved : goal.loop-self-preserved

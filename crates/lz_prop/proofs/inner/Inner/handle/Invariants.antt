@@ -1,5 +1,5 @@
 use Rattle.std.proofs.Common.{◌-◌}
-use Rattle.lz_prop.specs.Visit.{IsHandling}
+use Rattle.lz_prop.specs.Walk.{IsHandling}
 use Rattle.lz_prop.proofs.inner.Inner.handle.Given as goal
 
 abbrev pub invariant-loop-self : goal.invariant-loop-self

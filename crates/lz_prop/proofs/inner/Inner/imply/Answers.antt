@@ -18,6 +18,7 @@ is_put : (c : goal.After-put) → IsPut c.args.self.now (record c.args.self.now 
 is_put c = record {
   variables = refl;
   store = refl;
+  watch = refl;
   truths = c.put.ensures.truths;
   levels = c.put.ensures.levels ∙ ap (set c.args.self.now.table.levels.items (variable_of c.args.lit)) c.level-level.ensures;
   reasons = c.put.ensures.reasons;
@@ -30,7 +31,7 @@ is_put c = record {
 }
 
 pub returns-clause-kept : goal.returns-clause-kept
-returns-clause-kept c = imply_kept c.args.self.now _ c.args.lit c.args.number c.requires.kept (free c) c.requires.rests (is_put c) refl
+returns-clause-kept c = imply_kept c.args.self.now _ c.args.lit c.args.number c.requires.kept (free c) c.requires.rests (is_put c) refl refl
 
 pub returns-clause-further : goal.returns-clause-further
-returns-clause-further c = imply_further c.args.self.now _ c.args.lit c.args.number c.requires.kept (free c) c.requires.rests (is_put c) refl
+returns-clause-further c = imply_further c.args.self.now _ c.args.lit c.args.number c.requires.kept (free c) c.requires.rests (is_put c) refl refl

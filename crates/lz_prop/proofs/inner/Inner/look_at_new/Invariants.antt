@@ -1,6 +1,6 @@
 use Rattle.std.proofs.Common.{◌-◌, length}
 use Rattle.lz_prop.specs.Stored.{clauses_of}
-use Rattle.lz_prop.specs.Visit.{IsLooking}
+use Rattle.lz_prop.specs.Walk.{IsLooking}
 use Rattle.lz_prop.proofs.inner.Inner.look_at_new.Given as goal
 
 abbrev pub invariant-loop-self : goal.invariant-loop-self

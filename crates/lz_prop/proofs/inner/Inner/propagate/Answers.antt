@@ -1,7 +1,7 @@
 use Rattle.std.proofs.Common.{length, ap, arith}
 use Rattle.lz_prop.specs.Stored.{clauses_of}
 use Rattle.lz_prop.proofs.KeptLemmas.{further_join}
-use Rattle.lz_prop.proofs.VisitLemmas.{handled_outcome}
+use Rattle.lz_prop.proofs.WalkLemmas.{handled_outcome}
 use Rattle.lz_prop.proofs.inner.Inner.propagate.Goals as goal
 
 pub returns-clause-further : goal.returns-clause-further

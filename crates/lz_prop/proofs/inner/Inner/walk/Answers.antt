@@ -1,76 +1,49 @@
-use Rattle.std.proofs.Common.{◌≡◌, ℕ, ◌-◌, ◌<◌, length, get_or, sym, ◌∙◌, subst, arith}
-use Rattle.std.proofs.lemmas.List.{get_or_default}
-use Rattle.lz_prop.specs.Stored.{clauses_of}
+use Rattle.std.proofs.Common.{◌-◌, ◌<◌, arith}
 use Rattle.lz_prop.proofs.KeptLemmas.{further_join}
-use Rattle.lz_prop.proofs.VisitLemmas.{looked_open, owner_within, visit_place, visit_begins, visit_more, visit_ends, walk_number}
+use Rattle.lz_prop.proofs.WatchersLemmas.{guards_count, next_count, next_read}
+use Rattle.lz_prop.proofs.WalkLemmas.{walk_number, walking_begins, walking_more, behind_within, walk_ends, walk_short}
 use Rattle.lz_prop.proofs.inner.Inner.walk.Goals as goal
 
 pub index-requires : goal.index-requires
 index-requires c =
     let t = c.args.self.now in
     let number = walk_number t c.args.lit c.requires.kept c.requires.waiting c.requires.lit in
-    let n = t.store.lasts.ok.0 in
+    let n = t.watch.firsts.ok.0 in
     omega arith
 
-pub loop-at-init : goal.loop-at-init
-loop-at-init c =
+pub loop-init : goal.loop-init
+loop-init c =
     let t = c.args.self.now in
-    let number = walk_number t c.args.lit c.requires.kept c.requires.waiting c.requires.lit in
-    visit_begins t c.args.lit c.index.result.now c.requires.kept c.requires.waiting c.requires.lit
-    (c.index.ensures ∙ get_or_default t.store.lasts.items c.args.lit.0 c.index.result.now 0 number)
+    walking_begins t c.args.lit c.index.result.now _ c.requires.kept c.requires.waiting c.requires.lit c.index.ensures (let count = guards_count t.watch in let n = t.watch.watchers.ok.0 in omega arith)
 
-pub index-requires-in-loop-at : goal.index-requires-in-loop-at
-index-requires-in-loop-at c =
-    let t = c.loop-at.self in
-    let within = (visit_place c.args.self.now t c.args.lit c.loop-at.at c.loop-at.invariant c.loop-at-test.true).within in
-    let long = c.loop-at.invariant.kept.store.cut.owners_long in
-    let n = t.store.owners.ok.0 in
+pub returns-then-at-eq0-clause-outcome : goal.returns-then-at-eq0-clause-outcome
+returns-then-at-eq0-clause-outcome c = walk_ends c.loop.self c.args.lit c.loop.before c.loop.at c.loop.invariant.kept c.loop.invariant.walk c.if-at-eq0.true
+
+pub index-requires-in-loop : goal.index-requires-in-loop
+index-requires-in-loop c =
+    let t = c.loop.self in
+    let ne = c.if-at-eq0.false in
+    let some : 0 < c.loop.at = omega (arith, ne) in
+    let lt = behind_within t c.args.lit c.loop.before c.loop.at c.loop.invariant.kept c.loop.invariant.walk some in
+    let count = next_count t.watch in
+    let n = t.watch.watchers.ok.0 in
     omega arith
 
-pub look-requires-clause-within : goal.look-requires-clause-within
-look-requires-clause-within c =
-    let t = c.loop-at.self in
-    let at = c.loop-at.at - 1 in
-    let within = (visit_place c.args.self.now t c.args.lit c.loop-at.at c.loop-at.invariant c.loop-at-test.true).within in
-    let long = c.loop-at.invariant.kept.store.cut.owners_long in
-    let is : c.index-in-loop-at.result.now ≡ get_or t.store.owners.items at 0 = c.index-in-loop-at.ensures ∙ get_or_default t.store.owners.items at c.index-in-loop-at.result.now 0 (omega arith) in
-    subst (λ (n : ℕ). n < length (clauses_of t.store)) (sym is) (owner_within t at c.loop-at.invariant.kept within)
+pub loop-preserved : goal.loop-preserved
+loop-preserved c =
+    let ne = c.if-at-eq0.false in
+    let t = c.loop.self in
+    let some : 0 < c.loop.at = omega (arith, ne) in
+    let lt = behind_within t c.args.lit c.loop.before c.loop.at c.loop.invariant.kept c.loop.invariant.walk some in
+    let count = next_count t.watch in
+    walking_more c.args.self.now c.loop.self c.turn.new.self c.args.lit c.loop.before c.loop.at c.in-Some.now c.index-in-loop.result.now.next c.loop.counter _ c.loop.invariant some (next_read t.watch (c.loop.at - 1) c.index-in-loop.result.now (omega arith) c.index-in-loop.ensures)
+    c.turn.ensures.kept c.turn.ensures.further c.turn.ensures.head c.turn.ensures.seen c.in-Some.ensures.turned
 
-pub index-requires-in-loop-at-2 : goal.index-requires-in-loop-at-2
-index-requires-in-loop-at-2 c =
-    let t = c.loop-at.self in
-    let within = (visit_place c.args.self.now t c.args.lit c.loop-at.at c.loop-at.invariant c.loop-at-test.true).within in
-    let long = c.loop-at.invariant.kept.store.linked.next_long in
-    let n = t.store.next.ok.0 in
-    omega arith
-
-pub loop-at-smaller : goal.loop-at-smaller
-loop-at-smaller c =
-    let t = c.loop-at.self in
-    let at = c.loop-at.at - 1 in
-    let positive = c.loop-at-test.true in
-    let within = (visit_place c.args.self.now t c.args.lit c.loop-at.at c.loop-at.invariant c.loop-at-test.true).within in
-    let long = c.loop-at.invariant.kept.store.linked.next_long in
-    let is : c.index-in-loop-at-2.result.now ≡ get_or t.store.next.items at 0 = c.index-in-loop-at-2.ensures ∙ get_or_default t.store.next.items at c.index-in-loop-at-2.result.now 0 (omega arith) in
-    let falls = c.loop-at.invariant.kept.store.linked.falls at within in
-    omega arith
-
-pub loop-at-preserved : goal.loop-at-preserved
-loop-at-preserved c =
-    let t = c.loop-at.self in
-    let u = c.look.new.self in
-    let at = c.loop-at.at - 1 in
-    let within = (visit_place c.args.self.now t c.args.lit c.loop-at.at c.loop-at.invariant c.loop-at-test.true).within in
-    let next_long = c.loop-at.invariant.kept.store.linked.next_long in
-    let owners_long = c.loop-at.invariant.kept.store.cut.owners_long in
-    let owner_is : c.index-in-loop-at.result.now ≡ get_or t.store.owners.items at 0 = c.index-in-loop-at.ensures ∙ get_or_default t.store.owners.items at c.index-in-loop-at.result.now 0 (omega arith) in
-    let next_is : c.index-in-loop-at-2.result.now ≡ get_or t.store.next.items at 0 = c.index-in-loop-at-2.ensures ∙ get_or_default t.store.next.items at c.index-in-loop-at-2.result.now 0 (omega arith) in
-    visit_more c.args.self.now t u c.args.lit c.loop-at.at c.index-in-loop-at.result.now c.index-in-loop-at-2.result.now c.loop-at.invariant c.loop-at-test.true owner_is next_is
-    c.look.ensures.kept c.look.ensures.further c.look.ensures.head c.look.ensures.seen
-    (looked_open u c.index-in-loop-at.result.now c.look.result c.if-look.false c.look.ensures.looked)
-
-pub returns-then-look-clause-further : goal.returns-then-look-clause-further
-returns-then-look-clause-further c = further_join c.args.self.now c.loop-at.self c.look.new.self c.loop-at.invariant.further c.look.ensures.further
+pub returns-in-None-clause-further : goal.returns-in-None-clause-further
+returns-in-None-clause-further c = further_join c.args.self.now c.loop.self c.turn.new.self c.loop.invariant.further c.turn.ensures.further
 
 pub returns-clause-outcome : goal.returns-clause-outcome
-returns-clause-outcome c = let end = c.loop-at-test.false in visit_ends c.args.self.now c.loop-at.self c.args.lit c.loop-at.at c.loop-at.invariant (omega arith)
+returns-clause-outcome c =
+    let end = c.loop-test.false in
+    walk_ends c.loop.self c.args.lit c.loop.before c.loop.at c.loop.invariant.kept c.loop.invariant.walk
+    (walk_short c.loop.self c.args.lit c.loop.before c.loop.at c.loop.counter _ c.loop.invariant.walk c.loop.invariant.few (omega arith))

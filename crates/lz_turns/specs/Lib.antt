@@ -1,0 +1,10 @@
+pub mod Callees
+pub mod Fits
+pub mod Moves
+pub mod Nears
+pub mod Ranks
+pub mod Resumed
+pub mod Seen
+pub mod Sizes
+pub mod Stages
+pub mod Turning
