@@ -11,7 +11,6 @@ use Rattle.lz_cnf.specs.Models.{variable_of, negated}
 use Rattle.lz_cnf.specs.Partial.{IsUnassigned, IsConsistent, IsFalseClause, IsQuiet, IsNamed}
 use Rattle.lz_prop.specs.declared.inner.Inner.{Inner}
 use Rattle.lz_prop.specs.declared.store.Store.{Store}
-use Rattle.lz_prop.specs.declared.watch.Watch.{Watch}
 use Rattle.lz_prop.specs.Trail.{Entry, TrailState, IsTrail, RestsOn, Extends, literals, IsFalseNamed, HoldsClause, WasOpen, at_decision, decided, propagated, gone_back, with_clause}
 use Rattle.lz_prop.specs.Watchers.{guards_of}
 use Rattle.lz_prop.specs.Guarded.{Guards, AreGuarded, WereGuarded, AreFronts}
@@ -61,9 +60,6 @@ order_room_for t lit kept free =
     let long = length-append (state_of t).set (e ∷ []) in
     let same = set_long t in
     omega arith
-
-pub number_fits : (t : Inner) (lit : Lit) → IsKept t → IsFree t lit → lit.0 < length t.table.truths.items
-number_fits t lit kept free = let a = kept.table.truths_long in let b = free.within in omega arith
 
 -- how many literals were true at a decision
 pub start_within : (t : Inner) (level : ℕ) → IsKept t → level < length t.starts.items → get_or t.starts.items level 0 ≤ length t.table.order.items
@@ -476,59 +472,6 @@ added_kept t store clause kept wide is more within some open_ =
       were = λ k lt. rw more (are_kept (clauses_of t.store) (guards_of t.watch) (take (get_or t.starts.items k 0) t.table.order.items) (take (get_or t.fronts.items k 0) t.table.order.items) clause (omega arith) (kept.were k lt));
       head_within = kept.head_within;
       seen_within = omega arith;
-      few = kept.few;
-      order_room = kept.order_room;
-      starts_room = kept.starts_room;
-      fronts_room = kept.fronts_room;
-      watchers_room = omega arith;
-    }
-
--- where memory was wanting, the clauses are as they were
-pub same_kept : (t : Inner) (store : Store) → IsKept t → IsStore store → clauses_of store ≡ clauses_of t.store → IsKept (record t { store = store })
-same_kept t store kept is same =
-    let state : state_of (record t { store = store }) ≡ state_of t = made refl same refl refl refl in
-    record {
-      trail = subst IsTrail (sym state) kept.trail;
-      store = is;
-      table = kept.table;
-      starts = kept.starts;
-      fronts = kept.fronts;
-      listed = kept.listed;
-      firsts_long = kept.firsts_long;
-      guards_long = kept.guards_long;
-      guarded = rw same kept.guarded;
-      were = λ k lt. rw same (kept.were k lt);
-      head_within = kept.head_within;
-      seen_within = rw same kept.seen_within;
-      few = kept.few;
-      order_room = kept.order_room;
-      starts_room = kept.starts_room;
-      fronts_room = kept.fronts_room;
-      watchers_room = rw same kept.watchers_room;
-    }
-
--- watchers with the same lists and at least as much room
-pub record IsRoomier (v w : Watch) : Type 0 where
-  pub watchers : w.watchers.items ≡ v.watchers.items
-  pub firsts : w.firsts.items ≡ v.firsts.items
-  pub room : vec_capacity v.watchers ≤ vec_capacity w.watchers
-
-pub roomier_kept : (t : Inner) (watch : Watch) → IsKept t → IsRoomier t.watch watch → IsKept (record t { watch = watch })
-roomier_kept t watch kept is =
-    let a = is.room in let b = kept.watchers_room in
-    record {
-      trail = kept.trail;
-      store = kept.store;
-      table = kept.table;
-      starts = kept.starts;
-      fronts = kept.fronts;
-      listed = rw (is.watchers, is.firsts) kept.listed;
-      firsts_long = rw is.firsts kept.firsts_long;
-      guards_long = rw is.watchers kept.guards_long;
-      guarded = rw is.watchers kept.guarded;
-      were = λ k lt. rw is.watchers (kept.were k lt);
-      head_within = kept.head_within;
-      seen_within = kept.seen_within;
       few = kept.few;
       order_room = kept.order_room;
       starts_room = kept.starts_room;

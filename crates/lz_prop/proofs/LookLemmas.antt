@@ -15,17 +15,17 @@ use Rattle.lz_prop.specs.Watch.{AreListed}
 use Rattle.lz_prop.specs.Watchers.{guards_of, next_of}
 use Rattle.lz_prop.specs.Guarded.{IsSatisfied, Guards, IsGuarded, WasGuarded}
 use Rattle.lz_prop.specs.Parts.{entry_at}
-use Rattle.lz_prop.specs.Scan.{IsMarkedTrue, IsMarkedFalse, AreOthersFalse, IsLeft, IsOther, IsLast}
+use Rattle.lz_prop.specs.Scan.{IsMarkedFalse, AreOthersFalse, IsLeft, IsOther, IsLast}
 use Rattle.lz_prop.specs.Stored.{clauses_of}
 use Rattle.lz_prop.specs.Kept.{IsKept, state_of}
-use Rattle.lz_prop.specs.Further.{IsFurther, IsFalseKept}
+use Rattle.lz_prop.specs.Further.{IsFurther}
 use Rattle.lz_prop.proofs.LitLemmas.{variable_of-negated, Contains-map, Contains-from_map, Contains-filter, Contains-from_filter}
 use Rattle.lz_prop.proofs.OpenLemmas.{not_both}
 use Rattle.lz_prop.proofs.StoreLemmas.{length-cut}
-use Rattle.lz_prop.proofs.ScanLemmas.{marked_false, unmarked, all_marked, others_marked, marked_free}
+use Rattle.lz_prop.proofs.ScanLemmas.{marked_false, unmarked, others_marked}
 use Rattle.lz_prop.proofs.WatchersLemmas.{guards_count}
 use Rattle.lz_prop.proofs.GuardLemmas.{guards_moved, guards_satisfied, open_satisfied, last_guards, are_watched}
-use Rattle.lz_prop.proofs.KeptLemmas.{IsFree, order_is, in_variables, numbered, kept_consistent, front_at, at_start}
+use Rattle.lz_prop.proofs.KeptLemmas.{order_is, kept_consistent, front_at, at_start}
 
 -- ---- what is left of a clause
 
@@ -37,13 +37,6 @@ not_false t lit kept off h = unmarked t.variables t.table.truths.items t.table.l
 
 others_false : (t : Inner) (clause : List Lit) (lit : Lit) → IsKept t → AreOthersFalse t.table.truths.items clause lit → All (λ l. (l ≡ lit) ⊎ IsFalseLit t.table.order.items l) clause
 others_false t clause lit kept others = others_marked t.variables t.table.truths.items t.table.levels.items t.table.reasons.items t.table.order.items clause lit kept.table others
-
-pub left_free : (t : Inner) (at : ℕ) (d : List Lit) (lit : Lit) → IsKept t → at < length (clauses_of t.store) → Contains (get_or (clauses_of t.store) at d) lit
-    → (IsMarkedTrue t.table.truths.items lit → ⊥) → (IsMarkedFalse t.table.truths.items lit → ⊥) → IsFree t lit
-left_free t at d lit kept within has not_true off = record {
-  within = in_variables t at d lit kept within has;
-  unassigned = marked_free t.variables t.table.truths.items t.table.levels.items t.table.reasons.items t.table.order.items lit kept.table not_true off;
-}
 
 pub left_rests : (t : Inner) (at : ℕ) (d : List Lit) (lit : Lit) → IsKept t → at < length (clauses_of t.store) → Contains (get_or (clauses_of t.store) at d) lit
     → AreOthersFalse t.table.truths.items (get_or (clauses_of t.store) at d) lit → RestsOn (clauses_of t.store) (state_of t).set lit (at + 1)
@@ -61,21 +54,6 @@ left_rests t at d lit kept within has others =
 -- a read of the table of true literals
 pub marked_true : (t : Inner) (lit : Lit) (read : ℕ) → IsKept t → lit.0 < length t.table.truths.items → read ≡ get_or t.table.truths.items lit.0 read → read ≡ 1 → Contains t.table.order.items lit
 marked_true t lit read kept lt is one = kept.table.marked lit (sym (is ∙ get_or_default t.table.truths.items lit.0 read 0 lt) ∙ one)
-
--- the last literal is false too
-pub left_false : (t : Inner) (at : ℕ) (lit : Lit) → IsKept t → at < length (clauses_of t.store) → ((d : List Lit) → AreOthersFalse t.table.truths.items (get_or (clauses_of t.store) at d) lit)
-    → IsMarkedFalse t.table.truths.items lit → IsFalseKept t at
-left_false t at lit kept within others marked = record {
-  within = within;
-  false_ = λ d k e lt. ⊎_elim (λ same. subst (IsFalseLit t.table.order.items) (sym same) (is_false t lit kept marked)) (λ f. f) (others_false t (get_or (clauses_of t.store) at d) lit kept (others d) k e lt);
-}
-
--- no literal is left
-pub none_left : (t : Inner) (at : ℕ) → IsKept t → at < length (clauses_of t.store) → ((d : List Lit) → All (IsMarkedFalse t.table.truths.items) (get_or (clauses_of t.store) at d)) → IsFalseKept t at
-none_left t at kept within all = record {
-  within = within;
-  false_ = λ d. all_marked t.variables t.table.truths.items t.table.levels.items t.table.reasons.items t.table.order.items (get_or (clauses_of t.store) at d) kept.table (all d);
-}
 
 -- what is true stays true
 pub further_has : (t u : Inner) (lit : Lit) → IsFurther t u → Contains t.table.order.items lit → Contains u.table.order.items lit
@@ -210,10 +188,6 @@ guard_kept t watch one other kept within is now were =
       fronts_room = kept.fronts_room;
       watchers_room = omega arith;
     }
-
--- a literal of the clause that is looked at has a list
-pub guard_number : (t : Inner) (lit : Lit) → IsKept t → t.seen < length (clauses_of t.store) → Contains (get_or (clauses_of t.store) t.seen []) lit → lit.0 < length t.watch.firsts.items
-guard_number t lit kept within has = (numbered t lit kept (in_variables t t.seen [] lit kept within has)).first
 
 -- there is room for two watchers more, and their numbers fit
 pub record HasPlaces (t : Inner) : Type 0 where

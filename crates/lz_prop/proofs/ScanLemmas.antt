@@ -5,7 +5,7 @@ use Rattle.std.proofs.lemmas.List.{take_all, take-append-drop}
 use Rattle.std.proofs.lemmas.List.Elements.{All-contains, All-more, All-weaker, Contains-append_left, Contains-get_or}
 use Rattle.lz_cnf.specs.declared.clause.Lit.{Lit}
 use Rattle.lz_cnf.specs.Models.{negated}
-use Rattle.lz_cnf.specs.Partial.{IsFalseLit, IsUnassigned, IsFalseClause}
+use Rattle.lz_cnf.specs.Partial.{IsFalseLit}
 use Rattle.lz_prop.specs.Parts.{IsTable}
 use Rattle.lz_prop.specs.Scan.{IsMarkedTrue, IsMarkedFalse, AreOthersFalse, IsBefore, IsLater, IsLast}
 
@@ -37,9 +37,6 @@ last_more levels clause i d lit last now lt is later = record {
   before = All-more (λ l. IsBefore levels lit l now) clause i d lt (All-weaker (λ l. IsBefore levels lit l last) (λ l. IsBefore levels lit l now) (λ l h. before_join levels lit l last now h later.past) (take i clause) is.before) later.own;
 }
 
-pub last_all : (levels : List ℕ) (clause : List Lit) (i : ℕ) (lit last : Lit) → length clause ≤ i → IsLast levels clause (take i clause) lit last → IsLast levels clause clause lit last
-last_all levels clause i lit last le is = subst (λ (xs : List Lit). IsLast levels clause xs lit last) (take_all i clause le) is
-
 -- ---- what the tables say
 
 pub marked_false : (count : ℕ) (truths levels reasons : List ℕ) (order : List Lit) (lit : Lit) → IsTable count truths levels reasons order → IsMarkedFalse truths lit → IsFalseLit order lit
@@ -52,13 +49,6 @@ is_marked count truths levels reasons order lit table h = All-contains (λ l. ge
 pub unmarked : (count : ℕ) (truths levels reasons : List ℕ) (order : List Lit) (lit : Lit) → IsTable count truths levels reasons order → (IsMarkedFalse truths lit → ⊥) → IsFalseLit order lit → ⊥
 unmarked count truths levels reasons order lit table off h = off (is_marked count truths levels reasons order (negated lit) table h)
 
-pub all_marked : (count : ℕ) (truths levels reasons : List ℕ) (order clause : List Lit) → IsTable count truths levels reasons order → All (IsMarkedFalse truths) clause → IsFalseClause order clause
-all_marked count truths levels reasons order clause table all k d lt = marked_false count truths levels reasons order (get_or clause k d) table (all k d lt)
-
 pub others_marked : (count : ℕ) (truths levels reasons : List ℕ) (order clause : List Lit) (lit : Lit) → IsTable count truths levels reasons order → AreOthersFalse truths clause lit → All (λ l. (l ≡ lit) ⊎ IsFalseLit order l) clause
 others_marked count truths levels reasons order clause lit table others k d lt =
     ⊎_elim (λ same. inl same) (λ h. inr (marked_false count truths levels reasons order (get_or clause k d) table h)) (others k d lt)
-
-pub marked_free : (count : ℕ) (truths levels reasons : List ℕ) (order : List Lit) (lit : Lit) → IsTable count truths levels reasons order → (IsMarkedTrue truths lit → ⊥) → (IsMarkedFalse truths lit → ⊥) → IsUnassigned order lit
-marked_free count truths levels reasons order lit table not_true not_false =
-    (λ h. not_true (is_marked count truths levels reasons order lit table h), λ h. not_false (is_marked count truths levels reasons order (negated lit) table h))
