@@ -1,0 +1,130 @@
+-- Inner: how far a thread comes by one turn: to a call or a return, to its next action, or to its end.
+use Rattle.std.specs.Prelude.{◌≡◌, ℕ, zero, suc, ◌≤◌, Bool, false, List, [], ◌∷◌, ⊤}
+use Rattle.lz_base.specs.declared.word.BreakKind.{BreakKind}
+use Rattle.lz_tree.specs.ScopedTrees.{ScopedProgram}
+use Rattle.lz_model.specs.declared.actions.Action.{Action}
+use Rattle.lz_model.specs.declared.actions.Action.TheVariants.{Loc, Input, Check, Assume, Rd, Wr, Reset, Lock, Unlock, Park, Wake, Signal, Broadcast, Create, Join, HoldOn, HoldOff, End}
+use Rattle.lz_model.specs.Behaviours.{Behaviour, ends_with, halts, leaves, ◌and_then◌}
+use Rattle.lz_model.specs.CodeTraces.{Locals, no_calls, does, entered, passed}
+use Rattle.lz_model.specs.Programs.{function_at, value_of, calls_within}
+use Rattle.lz_turns.specs.Seen.{Alike}
+use Rattle.lz_stations.specs.Stations.{Footing, at_station, start, Pause, acts, reads, asks, signals, creates, calls_on, Reached, leads, pauses, fails, refuses, quits, stops}
+use Rattle.lz_stations.specs.StationTraces.{statement_resumed, paused, behind_reached}
+use Rattle.lz_machine.specs.Threads.{Frame, frames_trace, Running, outside}
+
+-- ---- what a statement comes to
+
+-- An action that is told as it is: neither a check or an assumption of 0, nor one whose value is chosen or found.
+abbrev pub IsPlain : Action → Type 0
+IsPlain Loc = ⊥
+IsPlain (Input value) = ⊥
+IsPlain (Check zero kind) = ⊥
+IsPlain (Check (suc value) kind) = ⊤
+IsPlain (Assume zero) = ⊥
+IsPlain (Assume (suc value)) = ⊤
+IsPlain (Rd cell value) = ⊥
+IsPlain (Wr cell value) = ⊤
+IsPlain (Reset mutex) = ⊤
+IsPlain (Lock mutex) = ⊤
+IsPlain (Unlock mutex) = ⊤
+IsPlain (Park cond mutex) = ⊤
+IsPlain (Wake cond mutex) = ⊤
+IsPlain (Signal cond woken) = ⊥
+IsPlain (Broadcast cond) = ⊤
+IsPlain (Create thread routine value) = ⊥
+IsPlain (Join thread) = ⊤
+IsPlain HoldOn = ⊤
+IsPlain HoldOff = ⊤
+IsPlain (End whole) = ⊥
+
+abbrev pub IsPlainPause : Pause → Type 0
+IsPlainPause (acts action line) = IsPlain action
+IsPlainPause (reads cell line) = ⊤
+IsPlainPause (asks line kind) = ⊤
+IsPlainPause (signals cond line) = ⊤
+IsPlainPause (creates routine value line) = ⊤
+IsPlainPause (calls_on function kinds values) = ⊤
+
+-- where a statement pauses, that is plain
+abbrev pub IsPlainReached : Reached → Type 0
+IsPlainReached (leads flow) = ⊤
+IsPlainReached (pauses pause footing) = IsPlainPause pause
+IsPlainReached (fails kind line) = ⊤
+IsPlainReached (refuses line) = ⊤
+IsPlainReached quits = ⊤
+IsPlainReached stops = ⊤
+
+-- ---- turns of a thread
+
+-- How far a thread came: it goes on, behind a call or a return; it pauses, and goes on so behind that; a check or an
+-- assumption of 0; it leaves its code; nothing more comes; or all its calls are done.
+pub data Turned : Type 0 where
+  again : (running : Running) → Turned
+  pausing : (pause : Pause) (running : Running) → Turned
+  failing : (kind : BreakKind) (line : ℕ) → Turned
+  refusing : (line : ℕ) → Turned
+  leaving : Turned
+  stopping : Turned
+  ending : Turned
+
+-- what may be done where a thread came so far
+abbrev pub turned_trace : ScopedProgram → ℕ → ℕ → Turned → Behaviour Locals ℕ
+turned_trace p n depth (again running) = frames_trace p n depth running.frames running.given
+turned_trace p n depth (pausing pause running) = paused no_calls pause and_then λ v. frames_trace p n depth running.frames v
+turned_trace p n depth (failing kind line) = does line (Check 0 kind) zero and_then λ _. halts
+turned_trace p n depth (refusing line) = does line (Assume 0) zero and_then λ _. halts
+turned_trace p n depth leaving = leaves false
+turned_trace p n depth stopping = halts
+turned_trace p n depth ending = ends_with zero
+
+abbrev pub handles_behind : Turned → List ℕ
+handles_behind (again running) = running.handles
+handles_behind (pausing pause running) = running.handles
+handles_behind (failing kind line) = []
+handles_behind (refusing line) = []
+handles_behind leaving = []
+handles_behind stopping = []
+handles_behind ending = []
+
+-- the pause is an action, and no thread was created on the way to it
+abbrev pub IsPausing : Turned → ℕ → Type 0
+IsPausing (again running) made = running.made ≡ made
+IsPausing (pausing (calls_on function kinds values) running) made = ⊥
+IsPausing (pausing pause running) made = IsPlainPause pause × (running.made ≡ made)
+IsPausing (failing kind line) made = ⊤
+IsPausing (refusing line) made = ⊤
+IsPausing leaving made = ⊤
+IsPausing stopping made = ⊤
+IsPausing ending made = ⊤
+
+-- A thread comes so far: what it may do is what it may do there, with Loc left out, where calls may go deep enough.
+pub record Turns (p : ScopedProgram) (n : ℕ) (running : Running) (turned : Turned) : Type 0 where
+  pub least : ℕ
+  pub same : (depth : ℕ) → least ≤ depth → Alike (frames_trace p n depth running.frames running.given) (outside running.handles) (turned_trace p n depth turned) (outside (handles_behind turned))
+  pub fits : IsPausing turned running.made
+
+-- ---- what one turn comes to
+
+-- a thread whose innermost call stands so
+abbrev pub running_with : List Frame → List ℕ → ℕ → ℕ → Running
+running_with frames handles given made = record { frames = frames; handles = handles; given = given; made = made }
+
+-- behind a pause of the innermost call: a call is a new innermost one
+abbrev pub turned_pause : ScopedProgram → Pause → List Frame → List ℕ → ℕ → Turned
+turned_pause p (calls_on function kinds arguments) frames handles made =
+    again (running_with (record { function = function; footing = at_station start; values = passed kinds (function_at p function).params arguments } ∷ frames) handles 0 made)
+turned_pause p (acts action line) frames handles made = pausing (acts action line) (running_with frames handles 0 made)
+turned_pause p (reads cell line) frames handles made = pausing (reads cell line) (running_with frames handles 0 made)
+turned_pause p (asks line kind) frames handles made = pausing (asks line kind) (running_with frames handles 0 made)
+turned_pause p (signals cond line) frames handles made = pausing (signals cond line) (running_with frames handles 0 made)
+turned_pause p (creates routine value line) frames handles made = pausing (creates routine value line) (running_with frames handles 0 made)
+
+-- where the body of the innermost call came so far, with these values of its locals
+abbrev pub turned_by : ScopedProgram → ℕ → List ℕ → List Frame → List ℕ → ℕ → Reached → Turned
+turned_by p function values callers handles made (leads flow) = again (running_with callers handles (value_of (function_at p function).gives flow) made)
+turned_by p function values callers handles made (pauses pause footing) =
+    turned_pause p pause (record { function = function; footing = footing; values = values } ∷ callers) handles made
+turned_by p function values callers handles made (fails kind line) = failing kind line
+turned_by p function values callers handles made (refuses line) = refusing line
+turned_by p function values callers handles made quits = leaving
+turned_by p function values callers handles made stops = stopping

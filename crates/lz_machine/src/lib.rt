@@ -1,0 +1,6 @@
+//! The resumable thread.
+#![tactic(auto)]
+
+mod laws;
+
+pub use laws::nothing;
