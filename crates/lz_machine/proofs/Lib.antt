@@ -1,2 +1,4 @@
+pub mod ActionsLemmas
+pub mod AnswersLemmas
 pub mod FramesLemmas
 pub mod TurnsLemmas

@@ -1,5 +1,5 @@
 -- Trusted: what a thread answers on its next action, by what it may do before and behind it.
-use Rattle.std.specs.Prelude.{◌≡◌, ◌≢◌, ◌⊎◌, ℕ, zero, suc, ◌<◌, ◌-◌, ◌^◌, min, ◌↔◌, List, [], ◌∷◌, Option, Some, None, ⊤}
+use Rattle.std.specs.Prelude.{◌≡◌, ◌≢◌, ◌⊎◌, ℕ, zero, suc, ◌<◌, ◌-◌, ◌^◌, ◌%◌, min, List, [], ◌∷◌, Option, Some, None, ⊤}
 use Rattle.lz_base.specs.Words.{value_bound}
 use Rattle.lz_tree.specs.ScopedTrees.{ScopedProgram}
 use Rattle.lz_model.specs.declared.actions.Action.{Action}
@@ -32,10 +32,17 @@ abbrev pub woken_by : ℕ → Option ℕ
 woken_by zero = None
 woken_by (suc thread) = Some (min thread (2 ^ 32 - 1))
 
--- The answer to a choice: an input has it for its value, as a word, and a signal wakes by it.
-abbrev pub IsChosen : ℕ → Action → Type 0
-IsChosen choice (Signal cond woken) = woken ≡ woken_by choice
-IsChosen choice action = ⊤
+-- The answered action is by the choice: an input has it for its value, as a word, and a signal wakes by it.
+abbrev pub HasChosen : ℕ → Action → Type 0
+HasChosen choice (Input value) = value ≡ choice % value_bound
+HasChosen choice (Signal cond woken) = woken ≡ woken_by choice
+HasChosen choice action = ⊤
+
+abbrev pub IsChosen : ℕ → Answer → Type 0
+IsChosen choice (reads cell line) = ⊤
+IsChosen choice (acts action line) = HasChosen choice action
+IsChosen choice has_ended = ⊤
+IsChosen choice is_cut = ⊤
 
 -- An answered signal stands for one that wakes anybody, each other action for itself.
 abbrev pub StandsFor : Action → Action → Type 0
@@ -60,3 +67,41 @@ IsBehind p n (acts action line) after list =
     (other : Action) × (rest : List Act) × StandsFor action other × (list ≡ at line other ∷ rest) × MayDo p n after rest
 IsBehind p n has_ended after list = ⊥
 IsBehind p n is_cut after list = ⊥
+
+-- ---- causes
+
+abbrev pub IsGoing : Standing → Type 0
+IsGoing (going running) = ⊤
+IsGoing failed = ⊥
+IsGoing stopped = ⊥
+IsGoing ended = ⊥
+
+-- an end ends the thread, a check or an assumption of 0 cuts it, and behind every other action it goes on
+abbrev pub StandsBehind : Action → Standing → Type 0
+StandsBehind (End whole) standing = standing ≡ ended
+StandsBehind (Check zero kind) standing = standing ≡ failed
+StandsBehind (Assume zero) standing = standing ≡ failed
+StandsBehind action standing = IsGoing standing
+
+-- a thread that is cut: it was cut before, or it goes no further
+abbrev pub CutBehind : Standing → Standing → Type 0
+CutBehind (going running) standing = standing ≡ stopped
+CutBehind failed standing = standing ≡ failed
+CutBehind stopped standing = standing ≡ stopped
+CutBehind ended standing = ⊥
+
+-- Why a thread gives this answer: it goes on; it gave its end before; or it did not, and nothing more comes.
+abbrev pub Causes : Standing → Answer → Standing → Type 0
+Causes before (reads cell line) after = IsGoing before × IsGoing after
+Causes before (acts action line) after = IsGoing before × StandsBehind action after
+Causes before has_ended after = (before ≡ ended) × (after ≡ ended)
+Causes before is_cut after = CutBehind before after
+
+-- The answer of a thread on its next action, and the thread behind it. What the thread could do before it is nothing, or
+-- what comes behind the answer: at an input for the value that is asked for, at a signal whomever it wakes.
+pub record Answers (p : ScopedProgram) (n choice : ℕ) (before : Thread) (answer : Answer) (after : Thread) : Type 0 where
+  pub there : (list : List Act) → IsAsked choice list → MayDo p n before list → (list ≡ []) ⊎ IsBehind p n answer after list
+  pub back : (list : List Act) → IsAsked choice list → IsBehind p n answer after list → MayDo p n before list
+  pub chosen : IsChosen choice answer
+  pub causes : Causes before.standing answer after.standing
+  pub whole : after.whole ≡ before.whole

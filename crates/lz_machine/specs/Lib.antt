@@ -1,3 +1,3 @@
+pub mod Answers
 pub mod Threads
 pub mod Turns
-pub mod Answers

@@ -1,5 +1,6 @@
 -- Inner: how far a thread comes by one turn: to a call or a return, to its next action, or to its end.
-use Rattle.std.specs.Prelude.{◌≡◌, ℕ, zero, suc, ◌≤◌, Bool, false, List, [], ◌∷◌, ⊤}
+use Rattle.std.specs.Prelude.{◌≡◌, ℕ, zero, suc, ◌≤◌, ◌%◌, Bool, false, List, [], ◌∷◌, ⊤}
+use Rattle.lz_base.specs.Words.{value_bound}
 use Rattle.lz_base.specs.declared.word.BreakKind.{BreakKind}
 use Rattle.lz_tree.specs.ScopedTrees.{ScopedProgram}
 use Rattle.lz_model.specs.declared.actions.Action.{Action}
@@ -10,7 +11,9 @@ use Rattle.lz_model.specs.Programs.{function_at, value_of, calls_within}
 use Rattle.lz_turns.specs.Seen.{Alike}
 use Rattle.lz_stations.specs.Stations.{Footing, at_station, start, Pause, acts, reads, asks, signals, creates, calls_on, Reached, leads, pauses, fails, refuses, quits, stops}
 use Rattle.lz_stations.specs.StationTraces.{statement_resumed, paused, behind_reached}
-use Rattle.lz_machine.specs.Threads.{Frame, frames_trace, Running, outside}
+use Rattle.lz_machine.specs.Threads.{Frame, frames_trace, Running, outside, Standing, going, failed, stopped, ended}
+use Rattle.lz_machine.specs.Answers as answers
+use Rattle.lz_machine.specs.Answers.{Answer, has_ended, is_cut, woken_by}
 
 -- ---- what a statement comes to
 
@@ -65,7 +68,7 @@ pub data Turned : Type 0 where
   refusing : (line : ℕ) → Turned
   leaving : Turned
   stopping : Turned
-  ending : Turned
+  ending : (value : ℕ) (handles : List ℕ) → Turned
 
 -- what may be done where a thread came so far
 abbrev pub turned_trace : ScopedProgram → ℕ → ℕ → Turned → Behaviour Locals ℕ
@@ -75,7 +78,7 @@ turned_trace p n depth (failing kind line) = does line (Check 0 kind) zero and_t
 turned_trace p n depth (refusing line) = does line (Assume 0) zero and_then λ _. halts
 turned_trace p n depth leaving = leaves false
 turned_trace p n depth stopping = halts
-turned_trace p n depth ending = ends_with zero
+turned_trace p n depth (ending value handles) = ends_with value
 
 abbrev pub handles_behind : Turned → List ℕ
 handles_behind (again running) = running.handles
@@ -84,7 +87,7 @@ handles_behind (failing kind line) = []
 handles_behind (refusing line) = []
 handles_behind leaving = []
 handles_behind stopping = []
-handles_behind ending = []
+handles_behind (ending value handles) = handles
 
 -- the pause is an action, and no thread was created on the way to it
 abbrev pub IsPausing : Turned → ℕ → Type 0
@@ -95,7 +98,7 @@ IsPausing (failing kind line) made = ⊤
 IsPausing (refusing line) made = ⊤
 IsPausing leaving made = ⊤
 IsPausing stopping made = ⊤
-IsPausing ending made = ⊤
+IsPausing (ending value handles) made = ⊤
 
 -- A thread comes so far: what it may do is what it may do there, with Loc left out, where calls may go deep enough.
 pub record Turns (p : ScopedProgram) (n : ℕ) (running : Running) (turned : Turned) : Type 0 where
@@ -128,3 +131,49 @@ turned_by p function values callers handles made (fails kind line) = failing kin
 turned_by p function values callers handles made (refuses line) = refusing line
 turned_by p function values callers handles made quits = leaving
 turned_by p function values callers handles made stops = stopping
+
+-- ---- what is answered
+
+-- behind an action whose value is this one
+abbrev pub going_on : Running → ℕ → ℕ → Standing
+going_on running given made = going (running_with running.frames running.handles given made)
+
+-- the answer of a thread that came so far, to a choice
+abbrev pub answer_to : ℕ → Bool → Turned → Answer
+answer_to choice whole (again running) = is_cut
+answer_to choice whole (pausing (acts action line) running) = answers.acts action line
+answer_to choice whole (pausing (reads cell line) running) = answers.reads cell line
+answer_to choice whole (pausing (asks line kind) running) = answers.acts (Input (choice % value_bound)) line
+answer_to choice whole (pausing (signals cond line) running) = answers.acts (Signal cond (woken_by choice)) line
+answer_to choice whole (pausing (creates routine value line) running) = answers.acts (Create running.made routine value) line
+answer_to choice whole (pausing (calls_on function kinds values) running) = is_cut
+answer_to choice whole (failing kind line) = answers.acts (Check 0 kind) line
+answer_to choice whole (refusing line) = answers.acts (Assume 0) line
+answer_to choice whole leaving = answers.acts (End false) 0
+answer_to choice whole stopping = is_cut
+answer_to choice whole (ending value handles) = answers.acts (End whole) 0
+
+-- and how the thread stands behind it
+abbrev pub standing_behind : ℕ → Turned → Standing
+standing_behind choice (again running) = going running
+standing_behind choice (pausing (acts action line) running) = going_on running 0 running.made
+standing_behind choice (pausing (reads cell line) running) = going_on running 0 running.made
+standing_behind choice (pausing (asks line kind) running) = going_on running (choice % value_bound) running.made
+standing_behind choice (pausing (signals cond line) running) = going_on running 0 running.made
+standing_behind choice (pausing (creates routine value line) running) = going_on running running.made (suc running.made)
+standing_behind choice (pausing (calls_on function kinds values) running) = going running
+standing_behind choice (failing kind line) = failed
+standing_behind choice (refusing line) = failed
+standing_behind choice leaving = ended
+standing_behind choice stopping = stopped
+standing_behind choice (ending value handles) = ended
+
+-- it came to an action, or to its end
+abbrev pub HasCome : Turned → Type 0
+HasCome (again running) = ⊥
+HasCome (pausing pause running) = ⊤
+HasCome (failing kind line) = ⊤
+HasCome (refusing line) = ⊤
+HasCome leaving = ⊤
+HasCome stopping = ⊤
+HasCome (ending value handles) = ⊤
