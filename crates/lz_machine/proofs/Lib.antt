@@ -1,4 +1,6 @@
 pub mod ActionsLemmas
 pub mod AnswersLemmas
+pub mod DepthLemmas
 pub mod FramesLemmas
+pub mod StartLemmas
 pub mod TurnsLemmas
