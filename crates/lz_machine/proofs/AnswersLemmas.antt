@@ -15,10 +15,11 @@ use Rattle.lz_model.specs.Programs.{end_of, numbered_after}
 use Rattle.lz_turns.specs.Seen.{Alike}
 use Rattle.lz_turns.proofs.SeenLemmas.{alike_same, alike_alike}
 use Rattle.lz_stations.specs.Stations.{Pause, acts, reads, asks, signals, creates, calls_on}
+use Rattle.lz_stations.specs.Nears.{IsPlain}
 use Rattle.lz_machine.specs.Threads.{Frame, frames_trace, Running, Standing, going, failed, stopped, ended, Thread, outside, Acts, Comes, MayGo, MayDo}
 use Rattle.lz_machine.specs.Answers as answers
 use Rattle.lz_machine.specs.Answers.{Answer, has_ended, is_cut, woken_by, HasChosen, IsChosen, StandsFor, IsAsked, IsBehind, IsGoing, StandsBehind, CutBehind, Causes, Answers}
-use Rattle.lz_machine.specs.Turns.{IsPlain, IsPlainPause, Turned, again, pausing, failing, refusing, leaving, stopping, ending, turned_trace, handles_behind, IsPausing, Turns, running_with, going_on, answer_to, standing_behind, HasCome}
+use Rattle.lz_machine.specs.Turns.{ Turned, again, pausing, failing, refusing, leaving, stopping, ending, turned_trace, handles_behind, IsPausing, Turns, running_with, going_on, answer_to, standing_behind, HasCome}
 use Rattle.lz_machine.proofs.ActionsLemmas.{acts_leads, acts_head, acts_back, acts_choice, acts_chosen, acts_halts, acts_ends, ends_acts, acts_leaves, leaves_acts}
 
 -- ---- plain actions

@@ -99,10 +99,14 @@ module _ (p : ScopedProgram) (n : ℕ) where
   -- where the innermost call came so far, the thread came so far
   reached_so : (depth own function : ℕ) (values : List ℕ) (callers : List Frame) (handles : List ℕ) (made : ℕ) (reached : Reached) → depth - length callers ≡ suc own → depth - suc (length callers) ≡ own
       → Alike (in_frame values (behind_reached (calls_within p n own) n (function_at p function).body reached gives value_of (function_at p function).gives) and_then λ w. frames_trace p n depth callers w) (outside handles)
-      (turned_trace p n depth (turned_by p function values callers handles made reached)) (outside (handles_behind (turned_by p function values callers handles made reached)))
-  reached_so depth own function values callers handles made (leads flow) e d =
+      (turned_trace p n depth (turned_by p (function_at p function).gives function values callers handles made reached)) (outside (handles_behind (turned_by p (function_at p function).gives function values callers handles made reached)))
+  reached_so depth own function values [] handles made (leads flow) e d =
       let g = value_of (function_at p function).gives in
-      let rest : ℕ → Behaviour Locals ℕ = λ w. frames_trace p n depth callers w in
+      let rest : ℕ → Behaviour Locals ℕ = λ w. ends_with w in
+      alike_alike (alike_then (frame_value values flow g (words_of handles)) rest) (alike_value (g flow) rest (outside handles))
+  reached_so depth own function values (frame ∷ callers) handles made (leads flow) e d =
+      let g = value_of (function_at p function).gives in
+      let rest : ℕ → Behaviour Locals ℕ = λ w. frames_trace p n depth (frame ∷ callers) w in
       alike_alike (alike_then (frame_value values flow g (words_of handles)) rest) (alike_value (g flow) rest (outside handles))
   reached_so depth own function values callers handles made (pauses (acts action line) footing) e d = pausing_so depth own function footing values (acts action line) callers (words_of handles) e
   reached_so depth own function values callers handles made (pauses (reads cell line) footing) e d = pausing_so depth own function footing values (reads cell line) callers (words_of handles) e
@@ -121,8 +125,9 @@ module _ (p : ScopedProgram) (n : ℕ) where
       let rest : ℕ → Behaviour Locals ℕ = λ w. frames_trace p n depth callers w in
       alike_alike (alike_then (frame_halts values g (outside handles) (outside [])) rest) (alike_halts rest (outside []))
 
-  pausing_fits : (function : ℕ) (values : List ℕ) (callers : List Frame) (handles : List ℕ) (made : ℕ) (reached : Reached) → IsPlainReached reached → IsPausing (turned_by p function values callers handles made reached) made
-  pausing_fits function values callers handles made (leads flow) h = refl
+  pausing_fits : (function : ℕ) (values : List ℕ) (callers : List Frame) (handles : List ℕ) (made : ℕ) (reached : Reached) → IsPlainReached reached → IsPausing (turned_by p (function_at p function).gives function values callers handles made reached) made
+  pausing_fits function values [] handles made (leads flow) h = tt
+  pausing_fits function values (frame ∷ callers) handles made (leads flow) h = refl
   pausing_fits function values callers handles made (pauses (acts action line) footing) h = (h, refl)
   pausing_fits function values callers handles made (pauses (reads cell line) footing) h = (tt, refl)
   pausing_fits function values callers handles made (pauses (asks line kind) footing) h = (tt, refl)
@@ -137,7 +142,7 @@ module _ (p : ScopedProgram) (n : ℕ) where
   -- one turn
   pub one_turn : (frame : Frame) (callers : List Frame) (handles more : List ℕ) (v made : ℕ) (values : List ℕ) (reached : Reached) → IsPlainReached reached
       → ((depth : ℕ) → Alike (statement_resumed (calls_within p n depth) n (function_at p frame.function).body frame.footing v) (entered frame.values (outside handles)) (behind_reached (calls_within p n depth) n (function_at p frame.function).body reached) (entered values (outside more)))
-      → Turns p n (running_with (frame ∷ callers) handles v made) (turned_by p frame.function values callers more made reached)
+      → Turns p n (running_with (frame ∷ callers) handles v made) (turned_by p (function_at p frame.function).gives frame.function values callers more made reached)
   one_turn frame callers handles more v made values reached plain advanced = record {
     least = suc (length callers);
     same = λ depth at_least.

@@ -1,7 +1,8 @@
 -- Inner: how far a thread comes by one turn: to a call or a return, to its next action, or to its end.
-use Rattle.std.specs.Prelude.{◌≡◌, ℕ, zero, suc, ◌≤◌, ◌%◌, Bool, false, List, [], ◌∷◌, ⊤}
+use Rattle.std.specs.Prelude.{◌≡◌, ℕ, zero, suc, ◌≤◌, ◌%◌, Bool, false, List, [], ◌∷◌, Option, ⊤}
 use Rattle.lz_base.specs.Words.{value_bound}
 use Rattle.lz_base.specs.declared.word.BreakKind.{BreakKind}
+use Rattle.lz_base.specs.declared.word.IntType.{IntType}
 use Rattle.lz_tree.specs.ScopedTrees.{ScopedProgram}
 use Rattle.lz_model.specs.declared.actions.Action.{Action}
 use Rattle.lz_model.specs.declared.actions.Action.TheVariants.{Loc, Input, Check, Assume, Rd, Wr, Reset, Lock, Unlock, Park, Wake, Signal, Broadcast, Create, Join, HoldOn, HoldOff, End}
@@ -10,35 +11,13 @@ use Rattle.lz_model.specs.CodeTraces.{Locals, no_calls, does, entered, passed}
 use Rattle.lz_model.specs.Programs.{function_at, value_of, calls_within}
 use Rattle.lz_turns.specs.Seen.{Alike}
 use Rattle.lz_stations.specs.Stations.{Footing, at_station, start, Pause, acts, reads, asks, signals, creates, calls_on, Reached, leads, pauses, fails, refuses, quits, stops}
+use Rattle.lz_stations.specs.Nears.{IsPlain}
 use Rattle.lz_stations.specs.StationTraces.{statement_resumed, paused, behind_reached}
 use Rattle.lz_machine.specs.Threads.{Frame, frames_trace, Running, outside, Standing, going, failed, stopped, ended}
 use Rattle.lz_machine.specs.Answers as answers
 use Rattle.lz_machine.specs.Answers.{Answer, has_ended, is_cut, woken_by}
 
 -- ---- what a statement comes to
-
--- An action that is told as it is: neither a check or an assumption of 0, nor one whose value is chosen or found.
-abbrev pub IsPlain : Action → Type 0
-IsPlain Loc = ⊥
-IsPlain (Input value) = ⊥
-IsPlain (Check zero kind) = ⊥
-IsPlain (Check (suc value) kind) = ⊤
-IsPlain (Assume zero) = ⊥
-IsPlain (Assume (suc value)) = ⊤
-IsPlain (Rd cell value) = ⊥
-IsPlain (Wr cell value) = ⊤
-IsPlain (Reset mutex) = ⊤
-IsPlain (Lock mutex) = ⊤
-IsPlain (Unlock mutex) = ⊤
-IsPlain (Park cond mutex) = ⊤
-IsPlain (Wake cond mutex) = ⊤
-IsPlain (Signal cond woken) = ⊥
-IsPlain (Broadcast cond) = ⊤
-IsPlain (Create thread routine value) = ⊥
-IsPlain (Join thread) = ⊤
-IsPlain HoldOn = ⊤
-IsPlain HoldOff = ⊤
-IsPlain (End whole) = ⊥
 
 abbrev pub IsPlainPause : Pause → Type 0
 IsPlainPause (acts action line) = IsPlain action
@@ -112,6 +91,11 @@ pub record Turns (p : ScopedProgram) (n : ℕ) (running : Running) (turned : Tur
 abbrev pub running_with : List Frame → List ℕ → ℕ → ℕ → Running
 running_with frames handles given made = record { frames = frames; handles = handles; given = given; made = made }
 
+-- a call that comes back: those that wait go on, where there are any
+abbrev pub come_back : List Frame → List ℕ → ℕ → ℕ → Turned
+come_back [] handles value made = ending value handles
+come_back (frame ∷ callers) handles value made = again (running_with (frame ∷ callers) handles value made)
+
 -- behind a pause of the innermost call: a call is a new innermost one
 abbrev pub turned_pause : ScopedProgram → Pause → List Frame → List ℕ → ℕ → Turned
 turned_pause p (calls_on function kinds arguments) frames handles made =
@@ -122,15 +106,20 @@ turned_pause p (asks line kind) frames handles made = pausing (asks line kind) (
 turned_pause p (signals cond line) frames handles made = pausing (signals cond line) (running_with frames handles 0 made)
 turned_pause p (creates routine value line) frames handles made = pausing (creates routine value line) (running_with frames handles 0 made)
 
--- where the body of the innermost call came so far, with these values of its locals
-abbrev pub turned_by : ScopedProgram → ℕ → List ℕ → List Frame → List ℕ → ℕ → Reached → Turned
-turned_by p function values callers handles made (leads flow) = again (running_with callers handles (value_of (function_at p function).gives flow) made)
-turned_by p function values callers handles made (pauses pause footing) =
+-- where the body of the innermost call came so far, with these values of its locals, whose function gives a value of this kind
+abbrev pub turned_by : ScopedProgram → Option IntType → ℕ → List ℕ → List Frame → List ℕ → ℕ → Reached → Turned
+turned_by p gives function values callers handles made (leads flow) = come_back callers handles (value_of gives flow) made
+turned_by p gives function values callers handles made (pauses pause footing) =
     turned_pause p pause (record { function = function; footing = footing; values = values } ∷ callers) handles made
-turned_by p function values callers handles made (fails kind line) = failing kind line
-turned_by p function values callers handles made (refuses line) = refusing line
-turned_by p function values callers handles made quits = leaving
-turned_by p function values callers handles made stops = stopping
+turned_by p gives function values callers handles made (fails kind line) = failing kind line
+turned_by p gives function values callers handles made (refuses line) = refusing line
+turned_by p gives function values callers handles made quits = leaving
+turned_by p gives function values callers handles made stops = stopping
+
+-- a call that begins, behind those under way
+abbrev pub begun : Running → ℕ → List ℕ → Running
+begun running function values =
+    running_with (record { function = function; footing = at_station start; values = values } ∷ running.frames) running.handles 0 running.made
 
 -- ---- what is answered
 

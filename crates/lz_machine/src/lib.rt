@@ -1,6 +1,8 @@
-//! The resumable thread.
+//! The resumable thread: it stops behind each of its actions but those on its own local values, and goes on from there.
 #![tactic(auto)]
 
-mod laws;
+mod running;
+mod turn;
 
-pub use laws::nothing;
+pub use running::{Caller, Running};
+pub use turn::Turned;

@@ -1,3 +1,0 @@
-/// Nothing.
-pub fn nothing()
-{}

@@ -1,0 +1,123 @@
+ghost use Rattle.std.specs.Prelude.{◌≡◌, IfOk, option_map, slice_get, map, ◌∷◌};
+ghost use Rattle.lz_base.specs.Words as words;
+ghost use Rattle.lz_tree.specs.ScopedTrees.{scoped_program, scoped_definition};
+ghost use Rattle.lz_model.specs.Programs as model;
+ghost use Rattle.lz_model.specs.CodeTraces as traces;
+ghost use Rattle.lz_stations.specs.StationsHeld.{flow_of};
+ghost use Rattle.lz_stations.specs.WalksHeld.{pause_of, reached_of};
+ghost use Rattle.lz_machine.specs.Turns as spec;
+ghost use Rattle.lz_machine.specs.Held.{caller_of, callers_of, running_of, turned_of};
+
+use crate::running::{Caller, Running};
+use lz_base::{BreakKind, IntType, Memory, Value, convert};
+use lz_stations::{Flow, Footing, Pause, Reached, Station, advance_statement};
+use lz_tree::{Scoped, ScopedFunction};
+use std::alloc::Global;
+use std::mem;
+
+/// What one turn of a thread leads to.
+#[derive(Drop)]
+pub enum Turned {
+    /// It called or came back, and goes on.
+    Again,
+    /// Its next action, which is no call.
+    Pauses { pause: Pause },
+    /// A check of 0, behind which nothing comes.
+    Fails { kind: BreakKind, line: u32 },
+    /// An assumption of 0, behind which nothing comes.
+    Refuses { line: u32 },
+    /// The thread leaves its code.
+    Leaves,
+    /// Nothing more.
+    Stops,
+    /// All its calls are done.
+    Ends,
+}
+
+/// The value of a word in another kind.
+fn converted(a: u32, from: IntType, to: IntType) -> u32
+    ensures { result ≡ words.converted a from to }
+{
+    convert(a as Value, from, to) as u32
+}
+
+/// The kind that stands for none: `int`.
+fn kind_or(kind: Option<IntType>) -> IntType
+    ensures { result ≡ traces.kind_or kind }
+{
+    match kind {
+        Some(kind) => kind,
+        None => IntType::Int,
+    }
+}
+
+/// The value that a function gives whose body led on so.
+fn value_of(gives: Option<IntType>, flow: Flow) -> u32
+    ensures { result ≡ model.value_of gives (flow_of flow) }
+{
+    match flow {
+        Flow::Normal | Flow::Breaks | Flow::Continues => 0,
+        Flow::Returns { kind, value } => converted(value, kind, kind_or(gives)),
+    }
+}
+
+/// Puts arguments into the kinds of the parameters.
+fn pass(values: &mut Vec<u32>, kinds: &[IntType], params: &[IntType])
+    ensures { values.new.items ≡ traces.passed kinds.now params.now values.old.items }
+{
+    let mut at = 0;
+    while at < values.len() && at < kinds.len() && at < params.len() {
+        values[at] = converted(values[at], kinds[at], params[at]);
+        at += 1;
+    }
+}
+
+/// The function of a call that is under way.
+fn function_of(program: &Scoped, function: u32) -> Option<&ScopedFunction>
+    ensures { option_map (λ f. scoped_definition f.now) result ≡ slice_get (scoped_program program.now).functions function }
+{
+    program.functions.items().get(function as usize)
+}
+
+/// Goes on in the innermost of the calls that wait.
+fn resume(running: &mut Running, caller: Caller)
+    ensures { running_of running.new ≡ spec.running_with (caller_of caller ∷ callers_of running.old.callers.items) running.old.locals.handles.items running.old.given running.old.made }
+{
+    running.function = caller.function;
+    running.footing = caller.footing;
+    running.locals.frame = caller.values;
+}
+
+/// Comes back from the innermost call with this value.
+fn come_back(running: &mut Running, value: u32) -> Turned
+    ensures { turned_of result running.new ≡ spec.come_back (callers_of running.old.callers.items) running.old.locals.handles.items value running.old.made }
+{
+    running.given = value;
+    match running.callers.pop() {
+        None => Turned::Ends,
+        Some(caller) => {
+            resume(running, caller);
+            Turned::Again
+        }
+    }
+}
+
+/// Begins a call with these arguments, in the kinds of the parameters.
+fn begin(running: &mut Running, function: u32, values: Vec<u32>) -> Result<(), Memory>
+    ensures { IfOk result (λ _. running_of running.new ≡ spec.begun (running_of running.old) function values.items) }
+{
+    let waits = Caller {
+        function: running.function,
+        footing: mem::replace(
+            &mut running.footing,
+            Footing::At {
+                station: Station::Start,
+            },
+        ),
+        values: mem::replace(&mut running.locals.frame, values),
+    };
+    running.callers.push(waits)?;
+    running.function = function;
+    running.given = 0;
+    Ok(())
+}
