@@ -6,3 +6,4 @@ pub mod HeldLemmas
 pub mod PassingLemmas
 pub mod StartLemmas
 pub mod TurnsLemmas
+pub mod WeightsLemmas

@@ -121,3 +121,81 @@ fn begin(running: &mut Running, function: u32, values: Vec<u32>) -> Result<(), M
     running.given = 0;
     Ok(())
 }
+
+/// Puts arguments into the kinds of the parameters of this function.
+fn pass_to(program: &Scoped, function: u32, kinds: &[IntType], values: &mut Vec<u32>)
+    ensures { values.new.items ≡ traces.passed kinds.now (model.function_at (scoped_program program.now) function).params values.old.items }
+{
+    match function_of(program, function) {
+        None => {}
+        Some(callee) => pass(values, kinds, callee.params.items()),
+    }
+}
+
+/// Makes a call with these arguments, which have these kinds.
+fn call(
+    program: &Scoped,
+    function: u32,
+    kinds: &[IntType],
+    mut values: Vec<u32>,
+    running: &mut Running,
+) -> Result<(), Memory>
+    ensures { let p = scoped_program program.now in IfOk result (λ _. running_of running.new ≡ spec.begun (running_of running.old) function (traces.passed kinds.now (model.function_at p function).params values.items)) }
+{
+    pass_to(program, function, kinds, &mut values);
+    begin(running, function, values)
+}
+
+/// Behind a pause of the innermost call, which stands there: a call of its begins, and at an action it waits.
+fn paused(program: &Scoped, pause: Pause, running: &mut Running) -> Result<Turned, Memory>
+    ensures { let r = running_of running.old in IfOk result (λ t. turned_of t running.new ≡ spec.turned_pause (scoped_program program.now) (pause_of pause) r.frames r.handles r.made) }
+{
+    running.given = 0;
+    match pause {
+        Pause::Calls {
+            function,
+            kinds,
+            values,
+        } => {
+            call(program, function, &kinds, values, running)?;
+            Ok(Turned::Again)
+        }
+        Pause::Acts { action, line } => Ok(Turned::Pauses {
+            pause: Pause::Acts { action, line },
+        }),
+        Pause::Reads { cell, line } => Ok(Turned::Pauses {
+            pause: Pause::Reads { cell, line },
+        }),
+        Pause::Asks { line, kind } => Ok(Turned::Pauses {
+            pause: Pause::Asks { line, kind },
+        }),
+        Pause::Signals { cond, line } => Ok(Turned::Pauses {
+            pause: Pause::Signals { cond, line },
+        }),
+        Pause::Creates { start, value, line } => Ok(Turned::Pauses {
+            pause: Pause::Creates { start, value, line },
+        }),
+    }
+}
+
+/// Where the body of the innermost call came so far, of a function that gives a value of this kind.
+fn came(
+    program: &Scoped,
+    gives: Option<IntType>,
+    reached: Reached,
+    running: &mut Running,
+) -> Result<Turned, Memory>
+    ensures { let r = running.old in IfOk result (λ t. turned_of t running.new ≡ spec.turned_by (scoped_program program.now) gives r.function r.locals.frame.items (callers_of r.callers.items) r.locals.handles.items r.made (reached_of reached)) }
+{
+    match reached {
+        Reached::Leads { flow } => Ok(come_back(running, value_of(gives, flow))),
+        Reached::Pauses { pause, footing } => {
+            running.footing = footing;
+            paused(program, pause, running)
+        }
+        Reached::Fails { kind, line } => Ok(Turned::Fails { kind, line }),
+        Reached::Refuses { line } => Ok(Turned::Refuses { line }),
+        Reached::Exits => Ok(Turned::Leaves),
+        Reached::Stops => Ok(Turned::Stops),
+    }
+}
