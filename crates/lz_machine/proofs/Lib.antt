@@ -1,4 +1,5 @@
 pub mod ActionsLemmas
+pub mod AdvancesLemmas
 pub mod AnswersLemmas
 pub mod DepthLemmas
 pub mod FramesLemmas

@@ -44,9 +44,6 @@ place_is (x ∷ rest) f (suc j) h e = elim (cases_eq x f) [
 
 -- ---- calls
 
-none_at : ScopedDefinition
-none_at = record { start = false; locals = 0; params = []; gives = Rattle.std.proofs.Common.None; body = empty }
-
 body_is : (p : ScopedProgram) (f : ℕ) → body_at p.functions f ≡ (function_at p f).body
 body_is p f = by p.functions f
   where
@@ -56,7 +53,7 @@ body_is p f = by p.functions f
     by (d ∷ rest) (suc f) = by rest f
 
 -- a function that is called is one of the program, and stands before its caller
-called_before : (p : ScopedProgram) (order : List ℕ) → IsCallOrder p.functions order → (f g : ℕ) → f < length p.functions → Contains (statement_calls (function_at p f).body) g → (g < length p.functions) × (place order g < place order f)
+pub called_before : (p : ScopedProgram) (order : List ℕ) → IsCallOrder p.functions order → (f g : ℕ) → f < length p.functions → Contains (statement_calls (function_at p f).body) g → (g < length p.functions) × (place order g < place order f)
 called_before p order o f g h called =
     let stands = o.all f h in
     let here : slice_index order (place order f) ≡ f = place_is order f stands.0 stands.1 stands.2 in

@@ -1,11 +1,11 @@
 -- Inner: how far a thread is from its next action: each call and each return brings it nearer, since no function of the program recurs.
-use Rattle.std.specs.Prelude.{ℕ, zero, suc, ◌+◌, ◌*◌, ◌<◌, ◌==◌, max, List, [], ◌∷◌, length, All, if◌then◌else◌, ⊤}
+use Rattle.std.specs.Prelude.{ℕ, zero, suc, ◌+◌, ◌*◌, ◌<◌, ◌==◌, max, List, [], ◌∷◌, length, if◌then◌else◌, ⊤}
 use Rattle.lz_tree.specs.ScopedTrees.{ScopedDefinition, ScopedProgram}
 use Rattle.lz_model.specs.Programs.{function_at}
 use Rattle.lz_stations.specs.StatementFits.{IsFitStatement}
 use Rattle.lz_stations.specs.StatementNears.{statement_most, statement_left}
 use Rattle.lz_machine.specs.Threads.{Frame, Running}
-use Rattle.lz_machine.specs.Turns.{Turned, again, pausing, failing, refusing, leaving, stopping, ending}
+use Rattle.lz_machine.specs.Turns.{Turned, again, pausing, failing, refusing, leaving, stopping, ending, Turns, HasCome}
 
 -- the first place of a number in a list
 abbrev pub place : List ℕ → ℕ → ℕ
@@ -43,7 +43,8 @@ IsLighter p order n heavy (ending value handles) = ⊤
 
 -- each call is of a function of the program
 abbrev pub AreOf : List ScopedDefinition → List Frame → Type 0
-AreOf functions frames = All (λ frame. frame.function < length functions) frames
+AreOf functions [] = ⊤
+AreOf functions (frame ∷ callers) = (frame.function < length functions) × AreOf functions callers
 
 abbrev pub StaysOf : List ScopedDefinition → Turned → Type 0
 StaysOf functions (again running) = AreOf functions running.frames
@@ -56,4 +57,20 @@ StaysOf functions (ending value handles) = ⊤
 
 -- each body can be run
 abbrev pub AreFitBodies : List ScopedDefinition → Type 0
-AreFitBodies functions = All (λ d. IsFitStatement d.body) functions
+AreFitBodies [] = ⊤
+AreFitBodies (d ∷ rest) = IsFitStatement d.body × AreFitBodies rest
+
+-- ---- what a turn, and turns up to the next action, keep
+
+-- A turn of a thread of the program: it does what it could, it brings the thread nearer to its next action, and the
+-- thread stays one of the program.
+pub record Advances (p : ScopedProgram) (order : List ℕ) (n : ℕ) (running : Running) (turned : Turned) : Type 0 where
+  pub turns : Turns p n running turned
+  pub lighter : IsLighter p order n (weight p order n running.frames) turned
+  pub stays : StaysOf p.functions turned
+
+-- Turns up to the next action, or to the end.
+pub record Arrives (p : ScopedProgram) (n : ℕ) (running : Running) (turned : Turned) : Type 0 where
+  pub turns : Turns p n running turned
+  pub come : HasCome turned
+  pub stays : StaysOf p.functions turned

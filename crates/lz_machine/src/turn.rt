@@ -1,11 +1,13 @@
 ghost use Rattle.std.specs.Prelude.{◌≡◌, IfOk, option_map, slice_get, map, ◌∷◌};
 ghost use Rattle.lz_base.specs.Words as words;
+ghost use Rattle.lz_tree.specs.Calls.{IsCallOrder};
 ghost use Rattle.lz_tree.specs.ScopedTrees.{scoped_program, scoped_definition};
 ghost use Rattle.lz_model.specs.Programs as model;
 ghost use Rattle.lz_model.specs.CodeTraces as traces;
 ghost use Rattle.lz_stations.specs.StationsHeld.{flow_of};
 ghost use Rattle.lz_stations.specs.WalksHeld.{pause_of, reached_of};
 ghost use Rattle.lz_machine.specs.Turns as spec;
+ghost use Rattle.lz_machine.specs.Weights.{AreOf, AreFitBodies, Advances, Arrives};
 ghost use Rattle.lz_machine.specs.Held.{caller_of, callers_of, running_of, turned_of};
 
 use crate::running::{Caller, Running};
@@ -197,5 +199,43 @@ fn came(
         Reached::Refuses { line } => Ok(Turned::Refuses { line }),
         Reached::Exits => Ok(Turned::Leaves),
         Reached::Stops => Ok(Turned::Stops),
+    }
+}
+
+/// One turn of a thread: its innermost call goes on up to an action, a call or its end.
+fn turn(
+    alloc: Global,
+    program: &Scoped,
+    order: &[u32],
+    bound: u32,
+    running: &mut Running,
+) -> Result<Turned, Memory>
+    requires ordered { IsCallOrder (scoped_program program.now).functions order.now }
+    requires fit { AreFitBodies (scoped_program program.now).functions }
+    requires of { AreOf (scoped_program program.now).functions (running_of running.old).frames }
+    ensures { IfOk result (λ t. Advances (scoped_program program.now) order.now bound (running_of running.old) (turned_of t running.new)) }
+{
+    let _order = order;
+    match function_of(program, running.function) {
+        None => Ok(Turned::Stops),
+        Some(function) => {
+            let footing = mem::replace(
+                &mut running.footing,
+                Footing::At {
+                    station: Station::Start,
+                },
+            );
+            let given = running.given;
+            let reached = advance_statement(
+                alloc,
+                &function.body,
+                footing,
+                given,
+                bound,
+                &mut running.locals,
+            )?;
+            let turned = came(program, function.gives, reached, running)?;
+            Ok(turned)
+        }
     }
 }
