@@ -1,5 +1,5 @@
 -- A turn of a thread, from what the body of its innermost call came to.
-use Rattle.std.proofs.Common.{◌≡◌, ℕ, zero, suc, ◌<◌, List, [], ◌∷◌, length, Option, Some, None, slice_get, refl, sym, ◌∙◌, ap, subst, arith}
+use Rattle.std.proofs.Common.{◌≡◌, ℕ, zero, suc, ◌<◌, Bool, true, false, List, [], ◌∷◌, length, Option, Some, None, slice_get, refl, sym, ◌∙◌, ap, subst, arith}
 use Rattle.lz_base.specs.declared.word.IntType.{IntType}
 use Rattle.lz_tree.specs.Calls.{IsCallOrder}
 use Rattle.lz_tree.specs.ScopedTrees.{ScopedStatement, ScopedDefinition, ScopedProgram}
@@ -9,12 +9,16 @@ use Rattle.lz_stations.specs.StatementNears.{PauseNears, StatementNears, stateme
 use Rattle.lz_stations.specs.Stations.{at_station, start, Footing, Pause, acts, reads, asks, signals, creates, calls_on, Reached, leads, pauses, fails, refuses, quits, stops}
 use Rattle.lz_stations.specs.StatementFits.{IsFitStatement}
 use Rattle.lz_stations.specs.Walks.{StatementComes}
-use Rattle.lz_machine.specs.Threads.{Frame, Running, outside}
+use Rattle.lz_machine.specs.Threads.{Frame, Running, outside, AreOf}
 use Rattle.lz_machine.specs.Turns.{IsPlainPause, IsPlainReached, Turned, again, pausing, failing, refusing, leaving, stopping, ending, Turns, running_with, turned_by, HasCome}
-use Rattle.lz_machine.specs.Weights.{weight, IsLighter, AreOf, StaysOf, AreFitBodies, Advances, Arrives}
+use Rattle.lz_machine.specs.Weights.{weight, IsLighter, StaysOf, AreFitBodies, Advances, Arrives}
+use Rattle.lz_machine.specs.declared.running.Running as held_running
+use Rattle.lz_machine.specs.declared.turn.Turned as held
+use Rattle.lz_machine.specs.declared.turn.Turned.TheVariants as code_turned
+use Rattle.lz_machine.specs.Held.{running_of, turned_of, is_again}
 use Rattle.lz_machine.proofs.HeldLemmas.{function_is}
 use Rattle.lz_machine.proofs.TurnsLemmas.{one_turn}
-use Rattle.lz_machine.proofs.AnswersLemmas.{turn_again}
+use Rattle.lz_machine.proofs.AnswersLemmas.{no_turn, turn_again}
 use Rattle.lz_machine.proofs.WeightsLemmas.{called_before, call_lighter, return_lighter}
 
 plain_reached : (n : ℕ) (s : ScopedStatement) (left : ℕ) (reached : Reached) → StatementNears n s left reached → IsPlainReached reached
@@ -89,10 +93,6 @@ advances p order n o frame callers of d is values handles more given made reache
     let by : turned ≡ turned_by p (function_at p frame.function).gives frame.function values callers more made reached = e ∙ ap (λ (x : ScopedDefinition). turned_by p x.gives frame.function values callers more made reached) same in
     subst (λ (x : Turned). Advances p order n (running_with (frame ∷ callers) handles given made) x) (sym by) one
 
--- turns, one after the other
-pub on_and_on : (p : ScopedProgram) (order : List ℕ) (n : ℕ) {one two : Running} {turned : Turned} → Turns p n one (again two) → Advances p order n two turned → HasCome turned → Arrives p n one turned
-on_and_on p order n t a come = record { turns = turn_again p n t a.turns; come = come; stays = a.stays }
-
 -- a body that can be run
 pub body_fits : (p : ScopedProgram) (f : ℕ) (d : ScopedDefinition) → Some d ≡ slice_get p.functions f → AreFitBodies p.functions → IsFitStatement d.body
 body_fits p f d e all = by p.functions f e all
@@ -110,3 +110,42 @@ is_found p f {A} e h = by p.functions f e h
     by [] f e h = absurd (omega (arith, h))
     by (x ∷ rest) zero e h = absurd cc
     by (x ∷ rest) (suc f) e h = by rest f e (omega (arith, h))
+
+-- ---- what code holds
+
+pub goes_on : (t : held.Turned) (r : held_running.Running) → is_again t ≡ true → turned_of t r ≡ again (running_of r)
+goes_on code_turned.Again r e = refl
+goes_on (code_turned.Pauses pause) r e = absurd cc
+goes_on (code_turned.Fails kind line) r e = absurd cc
+goes_on (code_turned.Refuses line) r e = absurd cc
+goes_on code_turned.Leaves r e = absurd cc
+goes_on code_turned.Stops r e = absurd cc
+goes_on code_turned.Ends r e = absurd cc
+
+pub has_come : (t : held.Turned) (r : held_running.Running) → is_again t ≡ false → HasCome (turned_of t r)
+has_come code_turned.Again r e = absurd cc
+has_come (code_turned.Pauses pause) r e = tt
+has_come (code_turned.Fails kind line) r e = tt
+has_come (code_turned.Refuses line) r e = tt
+has_come code_turned.Leaves r e = tt
+has_come code_turned.Stops r e = tt
+has_come code_turned.Ends r e = tt
+
+-- how far a thread came that goes on
+pub record SoFar (p : ScopedProgram) (n : ℕ) (one two : Running) : Type 0 where
+  pub turns : Turns p n one (again two)
+  pub of : AreOf p.functions two.frames
+
+pub at_start : (p : ScopedProgram) (n : ℕ) (one : Running) → AreOf p.functions one.frames → SoFar p n one one
+at_start p n one of = record { turns = no_turn p n one; of = of }
+
+pub further : (p : ScopedProgram) (order : List ℕ) (n : ℕ) (one two three : Running) (turned : Turned) → turned ≡ again three → SoFar p n one two → Advances p order n two turned → SoFar p n one three
+further p order n one two three turned e s a =
+    let b = subst (λ (x : Turned). Advances p order n two x) e a in
+    record { turns = turn_again p n s.turns b.turns; of = b.stays }
+
+pub nearer : (p : ScopedProgram) (order : List ℕ) (n : ℕ) (two three : Running) (turned : Turned) → turned ≡ again three → Advances p order n two turned → weight p order n three.frames < weight p order n two.frames
+nearer p order n two three turned e a = (subst (λ (x : Turned). Advances p order n two x) e a).lighter
+
+pub arrived : (p : ScopedProgram) (order : List ℕ) (n : ℕ) (one two : Running) (turned : Turned) → SoFar p n one two → Advances p order n two turned → HasCome turned → Arrives p n one turned
+arrived p order n one two turned s a come = record { turns = turn_again p n s.turns a.turns; come = come; stays = a.stays }

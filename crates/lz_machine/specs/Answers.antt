@@ -1,11 +1,12 @@
 -- Trusted: what a thread answers on its next action, by what it may do before and behind it.
-use Rattle.std.specs.Prelude.{◌≡◌, ◌≢◌, ◌⊎◌, ℕ, zero, suc, ◌<◌, ◌-◌, ◌^◌, ◌%◌, min, List, [], ◌∷◌, Option, Some, None, ⊤}
+use Rattle.std.specs.Prelude.{◌≡◌, ◌≢◌, ◌⊎◌, ℕ, zero, suc, ◌<◌, ◌-◌, ◌%◌, ◌==◌, min, if◌then◌else◌, List, [], ◌∷◌, Option, Some, None, ⊤}
 use Rattle.lz_base.specs.Words.{value_bound}
 use Rattle.lz_tree.specs.ScopedTrees.{ScopedProgram}
 use Rattle.lz_model.specs.declared.actions.Action.{Action}
 use Rattle.lz_model.specs.declared.actions.Action.TheVariants.{Loc, Input, Check, Assume, Rd, Wr, Reset, Lock, Unlock, Park, Wake, Signal, Broadcast, Create, Join, HoldOn, HoldOff, End}
 use Rattle.lz_model.specs.Actions.{Act}
 use Rattle.lz_model.specs.CodeTraces.{at}
+use Rattle.lz_model.specs.Programs.{process_of}
 use Rattle.lz_machine.specs.Threads.{Running, Standing, going, failed, stopped, ended, Thread, MayDo}
 
 -- What a thread answers: a read of a cell, whose word is to be read back; another action that is not Loc; that it gave
@@ -17,20 +18,22 @@ pub data Answer : Type 0 where
   is_cut : Answer
 
 -- a thread with the word that was read back, if any
+abbrev pub given_to : Option ℕ → Running → Running
+given_to None running = running
+given_to (Some word) running = record { frames = running.frames; handles = running.handles; given = word; made = running.made }
+
 abbrev pub given_word : Option ℕ → Standing → Standing
-given_word (Some word) (going running) = going (record { frames = running.frames; handles = running.handles; given = word; made = running.made })
-given_word None standing = standing
-given_word (Some word) failed = failed
-given_word (Some word) stopped = stopped
-given_word (Some word) ended = ended
+given_word word (going running) = going (given_to word running)
+given_word word failed = failed
+given_word word stopped = stopped
+given_word word ended = ended
 
 abbrev pub read_back : Option ℕ → Thread → Thread
 read_back word thread = record { standing = given_word word thread.standing; whole = thread.whole }
 
 -- The thread that a signal wakes by its choice: nobody for 0, else the one before the choice, up to the greatest word.
 abbrev pub woken_by : ℕ → Option ℕ
-woken_by zero = None
-woken_by (suc thread) = Some (min thread (2 ^ 32 - 1))
+woken_by choice = if choice == 0 then None else Some (min (choice - 1) (value_bound - 1))
 
 -- The answered action is by the choice: an input has it for its value, as a word, and a signal wakes by it.
 abbrev pub HasChosen : ℕ → Action → Type 0
@@ -105,3 +108,15 @@ pub record Answers (p : ScopedProgram) (n choice : ℕ) (before : Thread) (answe
   pub chosen : IsChosen choice answer
   pub causes : Causes before.standing answer after.standing
   pub whole : after.whole ≡ before.whole
+
+-- the argument with which a thread is created is a word
+abbrev pub HasWord : Answer → Type 0
+HasWord (acts (Create thread routine value) line) = value < value_bound
+HasWord answer = ⊤
+
+-- ---- how a thread begins
+
+-- What a thread may do from its start on: `main`, or a routine with its argument.
+abbrev pub begins_with : ScopedProgram → ℕ → Option ℕ → ℕ → List Act → Type 0
+begins_with p n None value = (process_of p n).main
+begins_with p n (Some routine) value = (process_of p n).started routine value

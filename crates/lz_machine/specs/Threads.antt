@@ -1,6 +1,6 @@
 -- Inner: what a thread may still do from where it stands, Loc left out.
-use Rattle.std.specs.Prelude.{◌≡◌, ◌⊎◌, ℕ, zero, suc, ◌-◌, ◌≤◌, Bool, List, [], ◌∷◌, length}
-use Rattle.lz_tree.specs.ScopedTrees.{ScopedProgram}
+use Rattle.std.specs.Prelude.{◌≡◌, ◌⊎◌, ℕ, zero, suc, ◌-◌, ◌<◌, ◌≤◌, Bool, List, [], ◌∷◌, length, ⊤}
+use Rattle.lz_tree.specs.ScopedTrees.{ScopedDefinition, ScopedProgram}
 use Rattle.lz_model.specs.Actions.{Act}
 use Rattle.lz_model.specs.Behaviours.{Behaviour, ends_with, halts, ◌and_then◌, ◌gives◌}
 use Rattle.lz_model.specs.CodeTraces.{Locals, in_frame}
@@ -81,3 +81,19 @@ MayGo p n whole ended acts = acts ≡ []
 -- What a thread may still do, where a loop has at most n turns an entry. It may stop at any time.
 abbrev pub MayDo : ScopedProgram → ℕ → Thread → List Act → Type 0
 MayDo p n thread acts = MayGo p n thread.whole thread.standing acts
+
+-- ---- threads of a program
+
+-- each call is of a function of the program
+abbrev pub AreOf : List ScopedDefinition → List Frame → Type 0
+AreOf functions [] = ⊤
+AreOf functions (frame ∷ callers) = (frame.function < length functions) × AreOf functions callers
+
+abbrev pub StandsOf : List ScopedDefinition → Standing → Type 0
+StandsOf functions (going running) = AreOf functions running.frames
+StandsOf functions failed = ⊤
+StandsOf functions stopped = ⊤
+StandsOf functions ended = ⊤
+
+abbrev pub IsOf : List ScopedDefinition → Thread → Type 0
+IsOf functions thread = StandsOf functions thread.standing

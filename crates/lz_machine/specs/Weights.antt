@@ -4,7 +4,7 @@ use Rattle.lz_tree.specs.ScopedTrees.{ScopedDefinition, ScopedProgram}
 use Rattle.lz_model.specs.Programs.{function_at}
 use Rattle.lz_stations.specs.StatementFits.{IsFitStatement}
 use Rattle.lz_stations.specs.StatementNears.{statement_most, statement_left}
-use Rattle.lz_machine.specs.Threads.{Frame, Running}
+use Rattle.lz_machine.specs.Threads.{Frame, Running, AreOf}
 use Rattle.lz_machine.specs.Turns.{Turned, again, pausing, failing, refusing, leaving, stopping, ending, Turns, HasCome}
 
 -- the first place of a number in a list
@@ -41,11 +41,7 @@ IsLighter p order n heavy leaving = ⊤
 IsLighter p order n heavy stopping = ⊤
 IsLighter p order n heavy (ending value handles) = ⊤
 
--- each call is of a function of the program
-abbrev pub AreOf : List ScopedDefinition → List Frame → Type 0
-AreOf functions [] = ⊤
-AreOf functions (frame ∷ callers) = (frame.function < length functions) × AreOf functions callers
-
+-- where it goes on, each call is of a function of the program
 abbrev pub StaysOf : List ScopedDefinition → Turned → Type 0
 StaysOf functions (again running) = AreOf functions running.frames
 StaysOf functions (pausing pause running) = AreOf functions running.frames

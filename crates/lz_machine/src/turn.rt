@@ -7,8 +7,9 @@ ghost use Rattle.lz_model.specs.CodeTraces as traces;
 ghost use Rattle.lz_stations.specs.StationsHeld.{flow_of};
 ghost use Rattle.lz_stations.specs.WalksHeld.{pause_of, reached_of};
 ghost use Rattle.lz_machine.specs.Turns as spec;
-ghost use Rattle.lz_machine.specs.Weights.{AreOf, AreFitBodies, Advances, Arrives};
-ghost use Rattle.lz_machine.specs.Held.{caller_of, callers_of, running_of, turned_of};
+ghost use Rattle.lz_machine.specs.Threads.{AreOf};
+ghost use Rattle.lz_machine.specs.Weights.{AreFitBodies, Advances, Arrives};
+ghost use Rattle.lz_machine.specs.Held.{caller_of, callers_of, running_of, turned_of, is_again};
 
 use crate::running::{Caller, Running};
 use lz_base::{BreakKind, IntType, Memory, Value, convert};
@@ -236,6 +237,43 @@ fn turn(
             )?;
             let turned = came(program, function.gives, reached, running)?;
             Ok(turned)
+        }
+    }
+}
+
+/// Whether a thread that came so far goes on.
+fn goes_again(turned: &Turned) -> bool
+    ensures { result ≡ is_again turned.now }
+{
+    match turned {
+        Turned::Again => true,
+        Turned::Pauses { .. }
+        | Turned::Fails { .. }
+        | Turned::Refuses { .. }
+        | Turned::Leaves
+        | Turned::Stops
+        | Turned::Ends => false,
+    }
+}
+
+/// Goes on up to the next action, or to the end of the thread. It comes there, since no function recurs and a loop has at
+/// most `bound` turns.
+pub fn run(
+    alloc: Global,
+    program: &Scoped,
+    order: &[u32],
+    bound: u32,
+    running: &mut Running,
+) -> Result<Turned, Memory>
+    requires ordered { IsCallOrder (scoped_program program.now).functions order.now }
+    requires fit { AreFitBodies (scoped_program program.now).functions }
+    requires of { AreOf (scoped_program program.now).functions (running_of running.old).frames }
+    ensures { IfOk result (λ t. Arrives (scoped_program program.now) bound (running_of running.old) (turned_of t running.new)) }
+{
+    loop {
+        let turned = turn(alloc, program, order, bound, running)?;
+        if !goes_again(&turned) {
+            return Ok(turned);
         }
     }
 }
