@@ -6,5 +6,6 @@ pub mod FramesLemmas
 pub mod HeldLemmas
 pub mod PassingLemmas
 pub mod StartLemmas
+pub mod ThreadLemmas
 pub mod TurnsLemmas
 pub mod WeightsLemmas

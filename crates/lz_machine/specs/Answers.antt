@@ -6,7 +6,9 @@ use Rattle.lz_model.specs.declared.actions.Action.{Action}
 use Rattle.lz_model.specs.declared.actions.Action.TheVariants.{Loc, Input, Check, Assume, Rd, Wr, Reset, Lock, Unlock, Park, Wake, Signal, Broadcast, Create, Join, HoldOn, HoldOff, End}
 use Rattle.lz_model.specs.Actions.{Act}
 use Rattle.lz_model.specs.CodeTraces.{at}
+use Rattle.lz_model.specs.Interleavings.{Process}
 use Rattle.lz_model.specs.Programs.{process_of}
+use Rattle.lz_model.specs.WithoutLoc.{bare}
 use Rattle.lz_machine.specs.Threads.{Running, Standing, going, failed, stopped, ended, Thread, MayDo}
 
 -- What a thread answers: a read of a cell, whose word is to be read back; another action that is not Loc; that it gave
@@ -116,7 +118,13 @@ HasWord answer = ⊤
 
 -- ---- how a thread begins
 
--- What a thread may do from its start on: `main`, or a routine with its argument.
-abbrev pub begins_with : ScopedProgram → ℕ → Option ℕ → ℕ → List Act → Type 0
-begins_with p n None value = (process_of p n).main
-begins_with p n (Some routine) value = (process_of p n).started routine value
+-- what `main` of a program may do, or a routine of it with this argument
+abbrev pub begins_with : Process → Option ℕ → ℕ → List Act → Type 0
+begins_with process None value = process.main
+begins_with process (Some routine) value = process.started routine value
+
+-- A thread before its first action: it may do what the threads of the program may that begin so, whatever the turns of
+-- loops.
+pub record Begins (p : ScopedProgram) (routine : Option ℕ) (value : ℕ) (thread : Thread) : Type 0 where
+  pub there : (n : ℕ) (list : List Act) → MayDo p n thread list → begins_with (bare (process_of p n)) routine value list
+  pub back : (n : ℕ) (list : List Act) → begins_with (bare (process_of p n)) routine value list → MayDo p n thread list

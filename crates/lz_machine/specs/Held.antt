@@ -63,6 +63,10 @@ standing_of code_standing.Ended = ended
 abbrev pub thread_of : held_thread.Thread → Thread
 thread_of thread = record { standing = standing_of thread.standing; whole = thread.whole }
 
+-- a thread that stands so
+abbrev pub thread_with : Standing → Bool → Thread
+thread_with standing whole = record { standing = standing; whole = whole }
+
 abbrev pub answer_of : held_next.Next → Answer
 answer_of (code_next.Read cell line) = reads cell line
 answer_of (code_next.Act action line) = acts action line

@@ -7,7 +7,7 @@ use Rattle.lz_model.specs.CodeTraces.{Locals, in_frame}
 use Rattle.lz_model.specs.Programs.{function_at, value_of, calls_within, EndsThread, CreatesFrom}
 use Rattle.lz_model.specs.WithoutLoc.{without_loc}
 use Rattle.lz_turns.specs.Stages.{words_of}
-use Rattle.lz_stations.specs.Stations.{Footing}
+use Rattle.lz_stations.specs.Stations.{start, Footing, at_station}
 use Rattle.lz_stations.specs.StationTraces.{statement_resumed}
 
 -- ---- frames
@@ -97,3 +97,11 @@ StandsOf functions ended = ⊤
 
 abbrev pub IsOf : List ScopedDefinition → Thread → Type 0
 IsOf functions thread = StandsOf functions thread.standing
+
+-- A thread before its first action, which runs this function with these arguments: the number of the first thread that
+-- it creates is 1.
+abbrev pub first_thread : ℕ → List ℕ → Bool → Thread
+first_thread function arguments whole = record {
+  standing = going (record { frames = record { function = function; footing = at_station start; values = arguments } ∷ []; handles = []; given = 0; made = 1 });
+  whole = whole;
+}
