@@ -1,6 +1,5 @@
 -- The next action of a thread: what it may do is nothing, or that action and what comes behind it.
-use Rattle.std.proofs.Common.{◌≡◌, ℕ, zero, suc, ◌+◌, ◌≤◌, ◌⊎◌, inl, inr, Bool, true, false, List, [], ◌∷◌, ◌++◌, Option, Some, None, refl, sym, ◌∙◌, ap, subst, arith}
-use Rattle.std.proofs.lemmas.List.{append-nil}
+use Rattle.std.proofs.Common.{◌≡◌, ℕ, suc, ◌⊎◌, inl, inr, Bool, true, false, List, [], ◌∷◌, ◌++◌, Option, Some, None, refl, sym, ◌∙◌, ap, subst}
 use Rattle.lz_model.specs.declared.actions.Action.{Action}
 use Rattle.lz_model.specs.declared.actions.Action.TheVariants.{Loc, Input, Check, Assume, Rd, Wr, Reset, Lock, Unlock, Park, Wake, Signal, Broadcast, Create, Join, HoldOn, HoldOff, End}
 use Rattle.lz_model.specs.Actions.{Act, is_loc, Start, started_by}
@@ -8,7 +7,7 @@ use Rattle.lz_model.specs.Behaviours.{Outcome, done, exits, cut, Behaviour, ends
 use Rattle.lz_model.specs.CodeTraces.{Locals}
 use Rattle.lz_model.specs.Programs.{end_of, EndsThread, is_cut, is_done, is_left, numbered_after, CreatesFrom}
 use Rattle.lz_model.specs.WithoutLoc.{left_out, without_loc}
-use Rattle.lz_turns.specs.Seen.{Seen, Follows, Alike}
+use Rattle.lz_turns.specs.Seen.{Follows}
 use Rattle.lz_turns.proofs.SeenLemmas.{without-append}
 use Rattle.lz_machine.specs.Threads.{Acts}
 

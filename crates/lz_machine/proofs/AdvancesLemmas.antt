@@ -1,16 +1,15 @@
 -- A turn of a thread, from what the body of its innermost call came to.
-use Rattle.std.proofs.Common.{◌≡◌, ℕ, zero, suc, ◌<◌, Bool, true, false, List, [], ◌∷◌, length, Option, Some, None, slice_get, refl, sym, ◌∙◌, ap, subst, arith}
-use Rattle.lz_base.specs.declared.word.IntType.{IntType}
+use Rattle.std.proofs.Common.{◌≡◌, ℕ, zero, suc, ◌<◌, true, false, List, [], ◌∷◌, length, Some, None, slice_get, refl, sym, ◌∙◌, ap, subst, arith}
 use Rattle.lz_tree.specs.Calls.{IsCallOrder}
 use Rattle.lz_tree.specs.ScopedTrees.{ScopedStatement, ScopedDefinition, ScopedProgram}
-use Rattle.lz_model.specs.CodeTraces.{Locals, entered, passed}
+use Rattle.lz_model.specs.CodeTraces.{entered, passed}
 use Rattle.lz_model.specs.Programs.{function_at}
-use Rattle.lz_stations.specs.StatementNears.{PauseNears, StatementNears, statement_left}
-use Rattle.lz_stations.specs.Stations.{at_station, start, Footing, Pause, acts, reads, asks, signals, creates, calls_on, Reached, leads, pauses, fails, refuses, quits, stops}
+use Rattle.lz_stations.specs.StatementNears.{StatementNears, statement_left}
+use Rattle.lz_stations.specs.Stations.{at_station, start, acts, reads, asks, signals, creates, calls_on, Reached, leads, pauses, fails, refuses, quits, stops}
 use Rattle.lz_stations.specs.StatementFits.{IsFitStatement}
 use Rattle.lz_stations.specs.Walks.{StatementComes}
 use Rattle.lz_machine.specs.Threads.{Frame, Running, outside, AreOf}
-use Rattle.lz_machine.specs.Turns.{IsPlainPause, IsPlainReached, Turned, again, pausing, failing, refusing, leaving, stopping, ending, Turns, running_with, turned_by, HasCome}
+use Rattle.lz_machine.specs.Turns.{IsPlainReached, Turned, again, Turns, running_with, turned_by, HasCome}
 use Rattle.lz_machine.specs.Weights.{weight, IsLighter, StaysOf, AreFitBodies, Advances, Arrives}
 use Rattle.lz_machine.specs.declared.running.Running as held_running
 use Rattle.lz_machine.specs.declared.turn.Turned as held
@@ -47,7 +46,7 @@ module _ (p : ScopedProgram) (order : List ℕ) (n : ℕ) (o : IsCallOrder p.fun
   lighter_by values handles made (pauses (asks line kind) footing) h = tt
   lighter_by values handles made (pauses (signals cond line) footing) h = tt
   lighter_by values handles made (pauses (creates routine value line) footing) h = tt
-  lighter_by values handles made (pauses (calls_on function kinds arguments) footing) h = 
+  lighter_by values handles made (pauses (calls_on function kinds arguments) footing) h =
       call_lighter p order n 0 frame (record { function = frame.function; footing = footing; values = values })
       (record { function = function; footing = at_station start; values = passed kinds (function_at p function).params arguments }) callers o of.0 refl h.0 refl h.1
   lighter_by values handles made (fails kind line) h = tt

@@ -1,25 +1,23 @@
 -- The answer of a thread that came so far: what it may do is nothing, or what comes behind the answer.
-use Rattle.std.proofs.Common.{◌≡◌, ℕ, zero, suc, ◌+◌, ◌<◌, ◌≤◌, ◌%◌, ◌⊎◌, inl, inr, Bool, true, false, List, [], ◌∷◌, ◌++◌, Option, Some, None, refl, sym, ◌∙◌, ap, subst, arith}
+use Rattle.std.proofs.Common.{◌≡◌, ℕ, zero, suc, ◌+◌, ◌<◌, ◌≤◌, ◌%◌, ◌⊎◌, inl, inr, Bool, false, List, [], ◌∷◌, Option, Some, None, refl, sym, ◌∙◌, ap, subst, arith}
 use Rattle.std.proofs.Math.Nat.{mod-eq_of_lt}
 use Rattle.std.proofs.lemmas.Nat.{mod_below}
 use Rattle.lz_base.specs.Words.{value_bound}
-use Rattle.lz_base.specs.declared.word.BreakKind.{BreakKind}
 use Rattle.lz_base.specs.declared.word.IntType.{IntType}
 use Rattle.lz_tree.specs.ScopedTrees.{ScopedProgram}
 use Rattle.lz_model.specs.declared.actions.Action.{Action}
 use Rattle.lz_model.specs.declared.actions.Action.TheVariants.{Loc, Input, Check, Assume, Rd, Wr, Reset, Lock, Unlock, Park, Wake, Signal, Broadcast, Create, Join, HoldOn, HoldOff, End}
 use Rattle.lz_model.specs.Actions.{Act, is_loc, Start, started_by}
-use Rattle.lz_model.specs.Behaviours.{Behaviour, ends_with, halts, leaves, updates, stays, chooses, ◌and_then◌}
+use Rattle.lz_model.specs.Behaviours.{halts, updates, stays, chooses, ◌and_then◌}
 use Rattle.lz_model.specs.CodeTraces.{Locals, at, IsWord, IsAny, IsValueOf}
-use Rattle.lz_model.specs.Programs.{end_of, numbered_after}
-use Rattle.lz_turns.specs.Seen.{Alike}
+use Rattle.lz_model.specs.Programs.{numbered_after}
 use Rattle.lz_turns.proofs.SeenLemmas.{alike_same, alike_alike}
-use Rattle.lz_stations.specs.Stations.{Pause, acts, reads, asks, signals, creates, calls_on}
+use Rattle.lz_stations.specs.Stations.{acts, reads, asks, signals, creates, calls_on}
 use Rattle.lz_stations.specs.Nears.{IsPlain}
-use Rattle.lz_machine.specs.Threads.{Frame, frames_trace, Running, Standing, going, failed, stopped, ended, Thread, outside, Acts, Comes, MayGo, MayDo}
+use Rattle.lz_machine.specs.Threads.{Frame, frames_trace, Running, Standing, going, failed, stopped, ended, outside, Acts, Comes, MayGo}
 use Rattle.lz_machine.specs.Answers as answers
 use Rattle.lz_machine.specs.Answers.{Answer, has_ended, is_cut, woken_by, HasChosen, IsChosen, StandsFor, IsAsked, IsBehind, IsGoing, StandsBehind, CutBehind, Causes, Answers}
-use Rattle.lz_machine.specs.Turns.{ Turned, again, pausing, failing, refusing, leaving, stopping, ending, turned_trace, handles_behind, IsPausing, Turns, running_with, going_on, answer_to, standing_behind, HasCome}
+use Rattle.lz_machine.specs.Turns.{Turned, again, pausing, failing, refusing, leaving, stopping, ending, turned_trace, handles_behind, IsPausing, Turns, running_with, going_on, answer_to, standing_behind, HasCome}
 use Rattle.lz_machine.proofs.ActionsLemmas.{acts_leads, acts_head, acts_back, acts_choice, acts_chosen, acts_halts, acts_ends, ends_acts, acts_leaves, leaves_acts}
 
 -- ---- plain actions
@@ -142,7 +140,7 @@ module _ (p : ScopedProgram) (n : ℕ) where
           → (first ≡ act) × numbered_after (started_by act.action) made (λ (k : ℕ). MayGo p n whole (going (running_with frames handles given k)) rest)
       act_there act given first rest least visible f =
           let on : (depth : ℕ) → least ≤ depth → (first ≡ act) × numbered_after (started_by act.action) made (λ (k : ℕ). (rest ≡ []) ⊎ Acts (frames_trace p n depth frames given) (outside handles) whole k rest) =
-            λ depth h. acts_head act given (λ v. frames_trace p n depth frames v) (outside handles) whole visible made first rest (f depth h) in
+          λ depth h. acts_head act given (λ v. frames_trace p n depth frames v) (outside handles) whole visible made first rest (f depth h) in
           ((on least (omega arith)).0, follow (started_by act.action) given rest least (λ depth h. (on depth h).1))
 
       act_back : (act : Act) (given : ℕ) (rest : List Act) → is_loc act.action ≡ false → numbered_after (started_by act.action) made (λ (k : ℕ). MayGo p n whole (going (running_with frames handles given k)) rest)
@@ -159,14 +157,14 @@ module _ (p : ScopedProgram) (n : ℕ) where
             → (c : C) × may c × (first ≡ act c) × numbered_after (started_by (act c).action) made (λ (k : ℕ). MayGo p n whole (going (running_with frames handles (given c) k)) rest)
         choice_there first rest least f =
             let on : (depth : ℕ) → least ≤ depth → (c : C) × may c × Acts (updates (act c) stays (given c) and_then λ v. frames_trace p n depth frames v) (outside handles) whole made (first ∷ rest) =
-              λ depth h. acts_choice may (λ c. updates (act c) stays (given c)) (λ v. frames_trace p n depth frames v) (outside handles) whole made (first ∷ rest) (f depth h) in
+            λ depth h. acts_choice may (λ c. updates (act c) stays (given c)) (λ v. frames_trace p n depth frames v) (outside handles) whole made (first ∷ rest) (f depth h) in
             let head : (depth : ℕ) (h : least ≤ depth) → first ≡ act (on depth h).0 =
-              λ depth h. (acts_head (act (on depth h).0) (given (on depth h).0) (λ v. frames_trace p n depth frames v) (outside handles) whole (visible (on depth h).0) made first rest (on depth h).2).0 in
+            λ depth h. (acts_head (act (on depth h).0) (given (on depth h).0) (λ v. frames_trace p n depth frames v) (outside handles) whole (visible (on depth h).0) made first rest (on depth h).2).0 in
             let reach : least ≤ least = omega arith in
             let start = on least reach in
             let all : (depth : ℕ) → least ≤ depth → Acts (updates (act start.0) stays (given start.0) and_then λ v. frames_trace p n depth frames v) (outside handles) whole made (first ∷ rest) =
-              λ depth h. subst (λ (c : C). Acts (updates (act c) stays (given c) and_then λ v. frames_trace p n depth frames v) (outside handles) whole made (first ∷ rest))
-                (same (on depth h).0 start.0 (sym (head depth h) ∙ head least reach)) (on depth h).2 in
+            λ depth h. subst (λ (c : C). Acts (updates (act c) stays (given c) and_then λ v. frames_trace p n depth frames v) (outside handles) whole made (first ∷ rest))
+            (same (on depth h).0 start.0 (sym (head depth h) ∙ head least reach)) (on depth h).2 in
             let one = act_there (act start.0) (given start.0) first rest least (visible start.0) all in
             (start.0, start.1, one.0, one.1)
 
@@ -221,14 +219,14 @@ module _ (p : ScopedProgram) (n : ℕ) where
           let pl = plain action t.fits.0 in
           answering (answers.acts action line) (going_on two 0 two.made)
           (λ first rest asked c.
-            let one = act_there two.frames two.handles running.made (at line action) zero first rest (c.least + t.least) pl.visible (λ depth h. led t first rest c depth h) in
-            let may = subst (λ (o : Option Start). numbered_after o running.made (λ (k : ℕ). MayGo p n whole (going (running_with two.frames two.handles zero k)) rest)) pl.quiet one.1 in
-            (action, rest, pl.itself, with_head first (at line action) rest one.0, renumbered running.made two zero rest t.fits.1 may))
+          let one = act_there two.frames two.handles running.made (at line action) zero first rest (c.least + t.least) pl.visible (λ depth h. led t first rest c depth h) in
+          let may = subst (λ (o : Option Start). numbered_after o running.made (λ (k : ℕ). MayGo p n whole (going (running_with two.frames two.handles zero k)) rest)) pl.quiet one.1 in
+          (action, rest, pl.itself, with_head first (at line action) rest one.0, renumbered running.made two zero rest t.fits.1 may))
           (λ list b.
-            let may = numbered_back running.made two zero b.1 t.fits.1 b.4 in
-            let u = act_back two.frames two.handles running.made (at line action) zero b.1 pl.visible
-              (subst (λ (o : Option Start). numbered_after o running.made (λ (k : ℕ). MayGo p n whole (going (running_with two.frames two.handles zero k)) b.1)) (sym pl.quiet) may) in
-            found_at list (at line action ∷ b.1) (b.3 ∙ ap (λ (a : Action). at line a ∷ b.1) (pl.only b.0 b.2)) (back_led t (at line action) b.1 u.0 u.1))
+          let may = numbered_back running.made two zero b.1 t.fits.1 b.4 in
+          let u = act_back two.frames two.handles running.made (at line action) zero b.1 pl.visible
+          (subst (λ (o : Option Start). numbered_after o running.made (λ (k : ℕ). MayGo p n whole (going (running_with two.frames two.handles zero k)) b.1)) (sym pl.quiet) may) in
+          found_at list (at line action ∷ b.1) (b.3 ∙ ap (λ (a : Action). at line a ∷ b.1) (pl.only b.0 b.2)) (back_led t (at line action) b.1 u.0 u.1))
           (pl.chosen choice) (tt, pl.behind (running_with two.frames two.handles 0 two.made))
 
       read_answer : (cell line : ℕ) (two : Running) → Turns p n running (pausing (reads cell line) two)
@@ -238,11 +236,11 @@ module _ (p : ScopedProgram) (n : ℕ) where
           let same : (c d : ℕ) → act c ≡ act d → c ≡ d = read_same line cell in
           answering (answers.reads cell line) (going_on two 0 two.made)
           (λ first rest asked c.
-            let x = choice_there two.frames two.handles running.made IsWord act (λ c. c) (λ c. refl) same first rest (c.least + t.least) (λ depth h. led t first rest c depth h) in
-            (x.0, rest, x.1, with_head first (act x.0) rest x.2, renumbered running.made two x.0 rest t.fits.1 x.3))
+          let x = choice_there two.frames two.handles running.made IsWord act (λ c. c) (λ c. refl) same first rest (c.least + t.least) (λ depth h. led t first rest c depth h) in
+          (x.0, rest, x.1, with_head first (act x.0) rest x.2, renumbered running.made two x.0 rest t.fits.1 x.3))
           (λ list b.
-            let u = choice_back two.frames two.handles running.made IsWord act (λ c. c) (λ c. refl) same b.0 b.2 b.1 (numbered_back running.made two b.0 b.1 t.fits.1 b.4) in
-            found_at list (act b.0 ∷ b.1) b.3 (back_led t (act b.0) b.1 u.0 u.1))
+          let u = choice_back two.frames two.handles running.made IsWord act (λ c. c) (λ c. refl) same b.0 b.2 b.1 (numbered_back running.made two b.0 b.1 t.fits.1 b.4) in
+          found_at list (act b.0 ∷ b.1) b.3 (back_led t (act b.0) b.1 u.0 u.1))
           tt (tt, tt)
 
       input_answer : (line : ℕ) (kind : IntType) (two : Running) → Turns p n running (pausing (asks line kind) two)
@@ -253,13 +251,17 @@ module _ (p : ScopedProgram) (n : ℕ) where
           let value = choice % value_bound in
           answering (answers.acts (Input value) line) (going_on two value two.made)
           (λ first rest asked c.
-            let x = choice_there two.frames two.handles running.made (IsValueOf kind) act (λ c. c) (λ c. refl) same first rest (c.least + t.least) (λ depth h. led t first rest c depth h) in
-            let is = asked_value choice line x.0 first x.2 asked x.1 in
-            (Input x.0, rest, ap (λ (v : ℕ). Input v) is, with_head first (act x.0) rest x.2,
-            renumbered running.made two value rest t.fits.1 (subst (λ (v : ℕ). MayGo p n whole (going (running_with two.frames two.handles v running.made)) rest) is x.3)))
+          let x = choice_there two.frames two.handles running.made (IsValueOf kind) act (λ c. c) (λ c. refl) same first rest (c.least + t.least) (λ depth h. led t first rest c depth h) in
+          let is = asked_value choice line x.0 first x.2 asked x.1 in (
+            Input x.0,
+            rest,
+            ap (λ (v : ℕ). Input v) is,
+            with_head first (act x.0) rest x.2,
+            renumbered running.made two value rest t.fits.1 (subst (λ (v : ℕ). MayGo p n whole (going (running_with two.frames two.handles v running.made)) rest) is x.3),
+          ))
           (λ list b.
-            let u = choice_back two.frames two.handles running.made (IsValueOf kind) act (λ c. c) (λ c. refl) same value (mod_below choice value_bound (omega arith)) b.1 (numbered_back running.made two value b.1 t.fits.1 b.4) in
-            found_at list (act value ∷ b.1) (b.3 ∙ ap (λ (a : Action). at line a ∷ b.1) b.2) (back_led t (act value) b.1 u.0 u.1))
+          let u = choice_back two.frames two.handles running.made (IsValueOf kind) act (λ c. c) (λ c. refl) same value (mod_below choice value_bound (omega arith)) b.1 (numbered_back running.made two value b.1 t.fits.1 b.4) in
+          found_at list (act value ∷ b.1) (b.3 ∙ ap (λ (a : Action). at line a ∷ b.1) b.2) (back_led t (act value) b.1 u.0 u.1))
           refl (tt, tt)
 
       signal_answer : (cond line : ℕ) (two : Running) → Turns p n running (pausing (signals cond line) two)
@@ -269,11 +271,11 @@ module _ (p : ScopedProgram) (n : ℕ) where
           let same : (c d : Option ℕ) → act c ≡ act d → c ≡ d = signal_same line cond in
           answering (answers.acts (Signal cond (woken_by choice)) line) (going_on two 0 two.made)
           (λ first rest asked c.
-            let x = choice_there two.frames two.handles running.made IsAny act (λ c. 0) (λ c. refl) same first rest (c.least + t.least) (λ depth h. led t first rest c depth h) in
-            (Signal cond x.0, rest, (x.0, refl), with_head first (act x.0) rest x.2, renumbered running.made two 0 rest t.fits.1 x.3))
+          let x = choice_there two.frames two.handles running.made IsAny act (λ c. 0) (λ c. refl) same first rest (c.least + t.least) (λ depth h. led t first rest c depth h) in
+          (Signal cond x.0, rest, (x.0, refl), with_head first (act x.0) rest x.2, renumbered running.made two 0 rest t.fits.1 x.3))
           (λ list b.
-            let u = choice_back two.frames two.handles running.made IsAny act (λ c. 0) (λ c. refl) same b.2.0 tt b.1 (numbered_back running.made two 0 b.1 t.fits.1 b.4) in
-            found_at list (act b.2.0 ∷ b.1) (b.3 ∙ ap (λ (a : Action). at line a ∷ b.1) b.2.1) (back_led t (act b.2.0) b.1 u.0 u.1))
+          let u = choice_back two.frames two.handles running.made IsAny act (λ c. 0) (λ c. refl) same b.2.0 tt b.1 (numbered_back running.made two 0 b.1 t.fits.1 b.4) in
+          found_at list (act b.2.0 ∷ b.1) (b.3 ∙ ap (λ (a : Action). at line a ∷ b.1) b.2.1) (back_led t (act b.2.0) b.1 u.0 u.1))
           refl (tt, tt)
 
       create_answer : (routine value line : ℕ) (two : Running) → Turns p n running (pausing (creates routine value line) two)
@@ -283,17 +285,20 @@ module _ (p : ScopedProgram) (n : ℕ) where
           let same : (c d : ℕ) → act c ≡ act d → c ≡ d = create_same line routine value in
           answering (answers.acts (Create two.made routine value) line) (going_on two two.made (suc two.made))
           (λ first rest asked c.
-            let x = choice_there two.frames two.handles running.made IsAny act (λ c. c) (λ c. refl) same first rest (c.least + t.least) (λ depth h. led t first rest c depth h) in
-            let is : x.0 ≡ two.made = x.3.0 ∙ sym t.fits.1 in
-            let one = subst (λ (k : ℕ). MayGo p n whole (going (running_with two.frames two.handles x.0 (suc k))) rest) (sym t.fits.1) x.3.1 in
-            (Create x.0 routine value, rest, ap (λ (d : ℕ). Create d routine value) is, with_head first (act x.0) rest x.2,
-            subst (λ (v : ℕ). MayGo p n whole (going (running_with two.frames two.handles v (suc two.made))) rest) is one))
+          let x = choice_there two.frames two.handles running.made IsAny act (λ c. c) (λ c. refl) same first rest (c.least + t.least) (λ depth h. led t first rest c depth h) in
+          let is : x.0 ≡ two.made = x.3.0 ∙ sym t.fits.1 in
+          let one = subst (λ (k : ℕ). MayGo p n whole (going (running_with two.frames two.handles x.0 (suc k))) rest) (sym t.fits.1) x.3.1 in (
+            Create x.0 routine value,
+            rest,
+            ap (λ (d : ℕ). Create d routine value) is,
+            with_head first (act x.0) rest x.2,
+            subst (λ (v : ℕ). MayGo p n whole (going (running_with two.frames two.handles v (suc two.made))) rest) is one,
+          ))
           (λ list b.
-            let one = subst (λ (k : ℕ). MayGo p n whole (going (running_with two.frames two.handles two.made (suc k))) b.1) t.fits.1 b.4 in
-            let u = choice_back two.frames two.handles running.made IsAny act (λ c. c) (λ c. refl) same two.made tt b.1 (t.fits.1, one) in
-            found_at list (act two.made ∷ b.1) (b.3 ∙ ap (λ (a : Action). at line a ∷ b.1) b.2) (back_led t (act two.made) b.1 u.0 u.1))
+          let one = subst (λ (k : ℕ). MayGo p n whole (going (running_with two.frames two.handles two.made (suc k))) b.1) t.fits.1 b.4 in
+          let u = choice_back two.frames two.handles running.made IsAny act (λ c. c) (λ c. refl) same two.made tt b.1 (t.fits.1, one) in
+          found_at list (act two.made ∷ b.1) (b.3 ∙ ap (λ (a : Action). at line a ∷ b.1) b.2) (back_led t (act two.made) b.1 u.0 u.1))
           tt (tt, tt)
-
 
       -- an action behind which nothing comes
       last_answer : (action : Action) (line : ℕ) (after : Standing) (turned : Turned) → Turns p n running turned → is_loc action ≡ false → started_by action ≡ None → StandsFor action action → ((other : Action) → StandsFor action other → other ≡ action)
@@ -305,11 +310,11 @@ module _ (p : ScopedProgram) (n : ℕ) where
       last_answer action line after turned t visible unstarted itself only there one none nothing chosen stands =
           answering (answers.acts action line) after
           (λ first rest asked c.
-            let x = there (c.least + t.least) first rest (led t first rest c (c.least + t.least) (omega arith)) in
-            (action, rest, itself, with_head first (at line action) rest x.0, none rest x.1))
+          let x = there (c.least + t.least) first rest (led t first rest c (c.least + t.least) (omega arith)) in
+          (action, rest, itself, with_head first (at line action) rest x.0, none rest x.1))
           (λ list b.
-            found_at list (at line action ∷ []) (b.3 ∙ (ap (λ (a : Action). at line a ∷ b.1) (only b.0 b.2) ∙ ap (λ (x : List Act). at line action ∷ x) (nothing b.1 b.4)))
-            (back_led t (at line action) [] 0 (λ depth h. one depth)))
+          found_at list (at line action ∷ []) (b.3 ∙ (ap (λ (a : Action). at line a ∷ b.1) (only b.0 b.2) ∙ ap (λ (x : List Act). at line action ∷ x) (nothing b.1 b.4)))
+          (back_led t (at line action) [] 0 (λ depth h. one depth)))
           chosen (tt, stands)
 
       -- The answer of a thread that came to an action, or to its end.

@@ -1,10 +1,10 @@
 -- Calls that may go deeper may do what calls did that may not.
-use Rattle.std.proofs.Common.{◌≡◌, ℕ, zero, suc, ◌+◌, ◌-◌, ◌<◌, ◌≤◌, ◌⊎◌, inl, inr, Bool, true, false, List, [], ◌∷◌, ◌++◌, Option, Some, None, refl, sym, ap, subst, arith}
+use Rattle.std.proofs.Common.{◌≡◌, ℕ, zero, suc, ◌≤◌, inl, inr, Bool, true, false, List, [], ◌∷◌, Option, Some, None, refl, sym, subst, arith}
 use Rattle.lz_base.specs.declared.word.BreakKind.{BreakKind}
 use Rattle.lz_base.specs.declared.word.BreakKind.TheVariants as kinds
 use Rattle.lz_base.specs.declared.word.IntType.{IntType}
 use Rattle.lz_base.specs.declared.word.IntType.TheVariants as kind_types
-use Rattle.lz_base.specs.Words.{is_true, truth, converted}
+use Rattle.lz_base.specs.Words.{is_true, truth}
 use Rattle.std.specs.Prelude.{slice_index, nat_lt}
 use Rattle.lz_base.specs.declared.operator.Binary.{Binary}
 use Rattle.lz_base.specs.declared.operator.Binary.TheVariants as ops
@@ -15,7 +15,7 @@ use Rattle.lz_tree.specs.declared.scoped.Object.TheVariants.{Local, Cell, Mutex,
 use Rattle.lz_tree.specs.ScopedTrees.{ScopedExpression, constant, null, text, object, address, paren, unary, cast, binary, choose, assign, step, call, Lvalue, lvalue, ScopedIndex, whole, element, ScopedExpressions, none, and, ScopedInitializer, nothing, single, listed, ScopedInitDeclarator, ScopedStatement, empty, eval, block, declare, when, while, do_while, for, break, continue, return, label, ScopedBranch, absent, branch, ScopedStatements, nil, cons, ScopedProgram}
 use Rattle.lz_model.specs.Actions.{Act}
 use Rattle.lz_model.specs.Behaviours.{Outcome, done, exits, cut, Behaviour, ends_with, halts, leaves, updates, tells, chooses, GoesOn, ◌and_then◌, ◌gives◌, picks}
-use Rattle.lz_model.specs.CodeTraces.{Locals, IsWord, entered, in_frame, Calls, passed, kinds_of, checks, assumes, inputs, read_at, write_at, needs, bounds, checks_index, kind_of, is_division, checks_divisor, decides, behind_first, known_trace, locs, expression_trace, arguments_trace, objects_trace, values_trace, handed_trace, place_trace, index_trace, is_object_argument, len_of, kind_of_object, right_operand, assigned, stepped, Flow, normal, breaks, continues, returns, arbitrary_trace, zeros_trace, listed_trace, no_threads_trace, integer_trace, object_trace, declarators_trace, led_on, turned, turns, do_turns, test_trace, change_trace, return_trace, statement_trace, branch_trace, statements_trace}
+use Rattle.lz_model.specs.CodeTraces.{Locals, entered, in_frame, Calls, passed, kinds_of, checks, assumes, inputs, needs, bounds, checks_index, kind_of, decides, behind_first, known_trace, expression_trace, arguments_trace, objects_trace, values_trace, handed_trace, place_trace, index_trace, is_object_argument, len_of, Flow, normal, breaks, continues, returns, arbitrary_trace, zeros_trace, listed_trace, no_threads_trace, integer_trace, object_trace, declarators_trace, led_on, turned, turns, do_turns, test_trace, change_trace, return_trace, statement_trace, branch_trace, statements_trace}
 use Rattle.lz_model.specs.Programs.{function_at, calls_within}
 
 -- ---- code may be cut before its first action

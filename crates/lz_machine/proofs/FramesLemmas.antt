@@ -1,18 +1,10 @@
 -- How calls that are under way go on, one inside the other, with Loc left out.
-use Rattle.std.proofs.Common.{◌≡◌, ℕ, zero, suc, ◌-◌, ◌⊎◌, inl, inr, Bool, List, [], ◌∷◌, ◌++◌, length, refl, sym, ◌∙◌, ap, subst}
-use Rattle.lz_base.specs.declared.word.IntType.{IntType}
-use Rattle.lz_tree.specs.ScopedTrees.{ScopedProgram, ScopedStatement}
+use Rattle.std.proofs.Common.{◌≡◌, ℕ, inl, inr, Bool, List, refl, sym, ◌∙◌, ap, subst}
 use Rattle.lz_model.specs.Actions.{Act}
-use Rattle.lz_model.specs.Behaviours.{Outcome, done, exits, cut, Behaviour, ends_with, halts, leaves, updates, stays, chooses, GoesOn, ◌and_then◌, ◌gives◌}
-use Rattle.lz_model.specs.CodeTraces.{Locals, entered, came_back, in_frame, passed, Flow}
-use Rattle.lz_model.specs.Programs.{function_at, value_of, calls_within}
+use Rattle.lz_model.specs.Behaviours.{Outcome, done, exits, cut, Behaviour, ends_with, halts, leaves, updates, stays, chooses, ◌and_then◌, ◌gives◌}
+use Rattle.lz_model.specs.CodeTraces.{Locals, entered, came_back, in_frame}
 use Rattle.lz_model.specs.WithoutLoc.{without_loc}
 use Rattle.lz_turns.specs.Seen.{Seen, Follows, Alike}
-use Rattle.lz_turns.proofs.SeenLemmas.{alike_same, alike_back, alike_alike, alike_then, alike_value, alike_halts, alike_leaves, alike_assoc}
-use Rattle.lz_turns.specs.Stages.{words_of}
-use Rattle.lz_stations.specs.Stations.{Footing, at_station, start, Pause, acts, reads, asks, signals, creates, calls_on, Reached, leads, pauses, fails, refuses, quits, stops}
-use Rattle.lz_stations.specs.StationTraces.{statement_resumed, paused, behind_reached}
-use Rattle.lz_machine.specs.Threads.{Frame, frame_trace, frames_trace, outside}
 
 -- ---- the ways in which code is put together
 

@@ -1,5 +1,5 @@
 -- The calls that wait, as the items of the list that holds them.
-use Rattle.std.proofs.Common.{◌≡◌, ℕ, zero, suc, List, [], ◌∷◌, ◌++◌, map, get_or, slice_get, Option, Some, None, refl, sym, ◌∙◌, ap}
+use Rattle.std.proofs.Common.{◌≡◌, ℕ, zero, suc, List, [], ◌∷◌, ◌++◌, map, get_or, slice_get, Some, None, refl, sym, ◌∙◌, ap}
 use Rattle.std.proofs.lemmas.Option.{get_or_from_slice_get}
 use Rattle.std.proofs.lemmas.List.{map-append, reverse-append}
 use Rattle.std.specs.Prelude.{reverse}
@@ -8,7 +8,6 @@ use Rattle.lz_tree.specs.ScopedTrees.{ScopedDefinition, ScopedProgram}
 use Rattle.lz_model.specs.CodeTraces.{passed}
 use Rattle.lz_model.specs.Programs.{function_at}
 use Rattle.lz_machine.specs.declared.running.Caller.{Caller}
-use Rattle.lz_machine.specs.Threads.{Frame}
 use Rattle.lz_machine.specs.Held.{caller_of, callers_of}
 
 -- the last of them is the innermost

@@ -1,5 +1,5 @@
 -- Arguments are put into the kinds of the parameters one after the other. Each kind has 32 bits, so none changes.
-use Rattle.std.proofs.Common.{◌≡◌, ℕ, List, [], ◌∷◌, get_or, set, refl, sym, ◌∙◌, ap, subst}
+use Rattle.std.proofs.Common.{◌≡◌, ℕ, List, [], ◌∷◌, get_or, set, refl, sym, ◌∙◌, ap}
 use Rattle.std.proofs.lemmas.List.{set-get_or}
 use Rattle.lz_base.specs.declared.word.IntType.{IntType}
 use Rattle.lz_model.specs.CodeTraces.{passed}

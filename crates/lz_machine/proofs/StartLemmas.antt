@@ -1,19 +1,19 @@
 -- A thread before its first action may do just the traces of its function, with Loc left out.
-use Rattle.std.proofs.Common.{◌≡◌, ℕ, zero, suc, ◌-◌, ◌≤◌, ◌⊎◌, inl, inr, Bool, List, [], ◌∷◌, ◌++◌, refl, sym, ◌∙◌, ap, subst, arith}
+use Rattle.std.proofs.Common.{◌≡◌, ℕ, zero, suc, ◌-◌, ◌≤◌, inl, inr, Bool, List, [], ◌∷◌, refl, sym, subst, arith}
 use Rattle.lz_tree.specs.ScopedTrees.{ScopedProgram}
 use Rattle.lz_model.specs.Actions.{Act}
-use Rattle.lz_model.specs.Behaviours.{Outcome, done, exits, cut, Behaviour, ends_with, halts, ◌and_then◌}
-use Rattle.lz_model.specs.CodeTraces.{Locals, entered, in_frame}
-use Rattle.lz_model.specs.Programs.{calls_within, begun, EndsThread, is_cut, is_done, is_left, CreatesFrom, IsThreadTrace}
-use Rattle.lz_model.specs.WithoutLoc.{without_loc, IsSeen}
-use Rattle.lz_model.proofs.FrontsLemmas.{Fronts, fronts_frame, fronts_calls}
+use Rattle.lz_model.specs.Behaviours.{done, exits, cut, ends_with, ◌and_then◌}
+use Rattle.lz_model.specs.CodeTraces.{in_frame}
+use Rattle.lz_model.specs.Programs.{calls_within, begun, EndsThread, is_cut, is_done, is_left, IsThreadTrace}
+use Rattle.lz_model.specs.WithoutLoc.{IsSeen}
+use Rattle.lz_model.proofs.FrontsLemmas.{fronts_frame, fronts_calls}
 use Rattle.lz_turns.specs.Seen.{Alike}
-use Rattle.lz_turns.proofs.SeenLemmas.{alike_back, alike_ends}
+use Rattle.lz_turns.proofs.SeenLemmas.{alike_ends}
 use Rattle.lz_stations.specs.Stations.{at_station, start}
-use Rattle.lz_machine.specs.Threads.{Frame, frame_trace, frames_trace, Running, Standing, going, Thread, outside, Acts, Comes, MayDo}
+use Rattle.lz_machine.specs.Threads.{Frame, frame_trace, frames_trace, going, outside, MayDo}
 use Rattle.lz_machine.specs.Turns.{running_with}
 use Rattle.lz_machine.proofs.ActionsLemmas.{acts_leads}
-use Rattle.lz_machine.proofs.DepthLemmas.{Covers, deeper_covers}
+use Rattle.lz_machine.proofs.DepthLemmas.{deeper_covers}
 
 -- a call that has begun
 abbrev begins : ℕ → List ℕ → Frame
@@ -62,8 +62,8 @@ module _ (p : ScopedProgram) (n function : ℕ) (arguments : List ℕ) (whole : 
       inr (record {
         least = is.does.depth;
         does = λ depth h. elim (acts_leads (alone depth).there whole 1 (first ∷ rest)
-          (record { full = is.full; does = framed depth is.full (deeper is.does.depth depth h is.full is.does.does); numbered = is.does.numbered; seen = is.seen })) [
-          | inl e ↦ absurd cc
-          | inr a ↦ a
-        ];
+            (record { full = is.full; does = framed depth is.full (deeper is.does.depth depth h is.full is.does.does); numbered = is.does.numbered; seen = is.seen })) [
+              | inl e ↦ absurd cc
+              | inr a ↦ a
+            ];
       })

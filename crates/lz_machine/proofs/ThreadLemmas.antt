@@ -1,5 +1,5 @@
 -- A thread's start and its answers, from what its code holds.
-use Rattle.std.proofs.Common.{◌≡◌, ℕ, Bool, true, false, List, [], ◌∷◌, Option, Some, None, refl, sym, ◌∙◌, ap, subst}
+use Rattle.std.proofs.Common.{◌≡◌, ℕ, Bool, true, false, List, [], ◌∷◌, Option, Some, None, sym, subst}
 use Rattle.lz_tree.specs.ScopedTrees.{ScopedProgram}
 use Rattle.lz_machine.specs.Threads.{Running, Standing, going, Thread, first_thread}
 use Rattle.lz_machine.specs.Answers.{Answer, given_to, read_back, Answers, Begins}

@@ -1,22 +1,21 @@
 -- One turn of a thread: the innermost call comes so far, and what the thread may do is what it may do there.
-use Rattle.std.proofs.Common.{◌≡◌, ℕ, zero, suc, ◌+◌, ◌-◌, ◌≤◌, ◌⊎◌, inl, inr, Bool, false, List, [], ◌∷◌, ◌++◌, length, refl, sym, ◌∙◌, ap, subst, arith}
-use Rattle.lz_base.specs.declared.word.BreakKind.{BreakKind}
+use Rattle.std.proofs.Common.{◌≡◌, ℕ, zero, suc, ◌-◌, inl, inr, false, List, [], ◌∷◌, length, refl, sym, subst, arith}
 use Rattle.lz_base.specs.declared.word.IntType.{IntType}
-use Rattle.lz_tree.specs.ScopedTrees.{ScopedProgram, ScopedStatement}
+use Rattle.lz_tree.specs.ScopedTrees.{ScopedProgram}
 use Rattle.lz_model.specs.declared.actions.Action.{Action}
 use Rattle.lz_model.specs.declared.actions.Action.TheVariants.{Check, Assume}
 use Rattle.lz_model.specs.Actions.{Act}
-use Rattle.lz_model.specs.Behaviours.{Outcome, done, exits, cut, Behaviour, ends_with, halts, leaves, updates, stays, chooses, GoesOn, ◌and_then◌, ◌gives◌}
-use Rattle.lz_model.specs.CodeTraces.{Locals, Calls, no_calls, at, does, entered, came_back, in_frame, passed, Flow}
+use Rattle.lz_model.specs.Behaviours.{Outcome, done, exits, cut, Behaviour, ends_with, halts, ◌and_then◌, ◌gives◌}
+use Rattle.lz_model.specs.CodeTraces.{Locals, Calls, at, does, entered, in_frame, passed, Flow}
 use Rattle.lz_model.specs.Programs.{function_at, value_of, calls_within}
 use Rattle.lz_model.proofs.FrontsLemmas.{fronts_updates}
-use Rattle.lz_turns.specs.Seen.{Seen, Follows, Alike}
-use Rattle.lz_turns.proofs.SeenLemmas.{alike_same, alike_back, alike_alike, alike_then, alike_behind, alike_value, alike_halts, alike_leaves, alike_assoc}
+use Rattle.lz_turns.specs.Seen.{Alike}
+use Rattle.lz_turns.proofs.SeenLemmas.{alike_same, alike_alike, alike_then, alike_behind, alike_value, alike_halts, alike_leaves, alike_assoc}
 use Rattle.lz_turns.specs.Stages.{words_of}
 use Rattle.lz_stations.specs.Stations.{Footing, at_station, start, Pause, acts, reads, asks, signals, creates, calls_on, Reached, leads, pauses, fails, refuses, quits, stops}
 use Rattle.lz_stations.specs.StationTraces.{statement_resumed, paused, behind_reached}
-use Rattle.lz_machine.specs.Threads.{Frame, frame_trace, frames_trace, Running, outside}
-use Rattle.lz_machine.specs.Turns.{IsPlainPause, IsPlainReached, Turned, again, pausing, failing, refusing, leaving, stopping, ending, turned_trace, handles_behind, IsPausing, Turns, running_with, turned_pause, turned_by}
+use Rattle.lz_machine.specs.Threads.{Frame, frame_trace, frames_trace, outside}
+use Rattle.lz_machine.specs.Turns.{IsPlainReached, turned_trace, handles_behind, IsPausing, Turns, running_with, turned_by}
 use Rattle.lz_machine.proofs.FramesLemmas.{alike_exact, alike_under, beyond, alike_frame, frame_value, frame_halts, frame_leaves, Beside, beside_updates, beside_frame, beside_chooses, frame_then}
 
 -- a check or an assumption behind which nothing comes, from any local values

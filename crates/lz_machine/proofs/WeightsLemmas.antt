@@ -4,13 +4,12 @@ use Rattle.std.specs.List.{Contains}
 use Rattle.std.proofs.lemmas.Nat.{mul-le}
 use Rattle.std.proofs.lemmas.Bool.{cases_eq}
 use Rattle.std.proofs.lemmas.List.Elements.{All-contains, All-get_or}
-use Rattle.lz_base.specs.declared.word.IntType.{IntType}
 use Rattle.lz_tree.specs.Calls.{statement_calls, body_at, StandsBefore, IsCallOrder}
 use Rattle.lz_tree.specs.ScopedTrees.{ScopedStatement, empty, ScopedDefinition, ScopedProgram}
 use Rattle.lz_model.specs.Programs.{function_at}
 use Rattle.lz_stations.specs.StatementNears.{statement_most, statement_left}
 use Rattle.lz_machine.specs.Threads.{Frame}
-use Rattle.lz_machine.specs.Weights.{place, most_of_all, weight_before, frame_weight, weight}
+use Rattle.lz_machine.specs.Weights.{place, most_of_all, weight_before, weight}
 
 -- ---- places in the order
 
@@ -60,7 +59,7 @@ called_before p order o f g h called =
     let low : place order f ≤ stands.0 = place_low order f stands.0 stands.1 stands.2 in
     let within : place order f < length order = omega (arith, low, stands.1) in
     let calls : Contains (statement_calls (body_at p.functions (slice_index order (place order f)))) g =
-      subst (λ (k : ℕ). Contains (statement_calls (body_at p.functions k)) g) (sym here) (subst (λ (s : ScopedStatement). Contains (statement_calls s) g) (sym (body_is p f)) called) in
+    subst (λ (k : ℕ). Contains (statement_calls (body_at p.functions k)) g) (sym here) (subst (λ (s : ScopedStatement). Contains (statement_calls s) g) (sym (body_is p f)) called) in
     let before = All-contains (StandsBefore order (place order f)) (statement_calls (body_at p.functions (slice_index order (place order f)))) g (o.behind (place order f) within) calls in
     let inside : before.0 < length order = omega (arith, before.1, within) in
     let less : place order g ≤ before.0 = place_low order g before.0 inside before.2 in

@@ -1,9 +1,9 @@
 -- Trusted: what a thread answers on its next action, by what it may do before and behind it.
-use Rattle.std.specs.Prelude.{◌≡◌, ◌≢◌, ◌⊎◌, ℕ, zero, suc, ◌<◌, ◌-◌, ◌%◌, ◌==◌, min, if◌then◌else◌, List, [], ◌∷◌, Option, Some, None, ⊤}
+use Rattle.std.specs.Prelude.{◌≡◌, ◌⊎◌, ℕ, zero, ◌<◌, ◌-◌, ◌%◌, ◌==◌, min, if◌then◌else◌, List, [], ◌∷◌, Option, Some, None, ⊤}
 use Rattle.lz_base.specs.Words.{value_bound}
 use Rattle.lz_tree.specs.ScopedTrees.{ScopedProgram}
 use Rattle.lz_model.specs.declared.actions.Action.{Action}
-use Rattle.lz_model.specs.declared.actions.Action.TheVariants.{Loc, Input, Check, Assume, Rd, Wr, Reset, Lock, Unlock, Park, Wake, Signal, Broadcast, Create, Join, HoldOn, HoldOff, End}
+use Rattle.lz_model.specs.declared.actions.Action.TheVariants.{Input, Check, Assume, Rd, Signal, Create, End}
 use Rattle.lz_model.specs.Actions.{Act}
 use Rattle.lz_model.specs.CodeTraces.{at}
 use Rattle.lz_model.specs.Interleavings.{Process}

@@ -1,7 +1,6 @@
 -- Inner: a thread as code holds it, and what a turn of it leads to.
 use Rattle.std.specs.Prelude.{ℕ, Bool, true, false, List, ◌∷◌, map, reverse, Option, Some, None, ◌%◌}
 use Rattle.lz_base.specs.Words.{value_bound}
-use Rattle.lz_turns.specs.declared.stage.Locals.{Locals}
 use Rattle.lz_stations.specs.WalksHeld.{footing_of, pause_of}
 use Rattle.lz_machine.specs.declared.running.Caller.{Caller}
 use Rattle.lz_machine.specs.declared.running.Running as held_running

@@ -4,15 +4,14 @@ use Rattle.lz_base.specs.Words.{value_bound}
 use Rattle.lz_base.specs.declared.word.BreakKind.{BreakKind}
 use Rattle.lz_base.specs.declared.word.IntType.{IntType}
 use Rattle.lz_tree.specs.ScopedTrees.{ScopedProgram}
-use Rattle.lz_model.specs.declared.actions.Action.{Action}
-use Rattle.lz_model.specs.declared.actions.Action.TheVariants.{Loc, Input, Check, Assume, Rd, Wr, Reset, Lock, Unlock, Park, Wake, Signal, Broadcast, Create, Join, HoldOn, HoldOff, End}
+use Rattle.lz_model.specs.declared.actions.Action.TheVariants.{Input, Check, Assume, Signal, Create, End}
 use Rattle.lz_model.specs.Behaviours.{Behaviour, ends_with, halts, leaves, ◌and_then◌}
-use Rattle.lz_model.specs.CodeTraces.{Locals, no_calls, does, entered, passed}
-use Rattle.lz_model.specs.Programs.{function_at, value_of, calls_within}
+use Rattle.lz_model.specs.CodeTraces.{Locals, no_calls, does, passed}
+use Rattle.lz_model.specs.Programs.{function_at, value_of}
 use Rattle.lz_turns.specs.Seen.{Alike}
-use Rattle.lz_stations.specs.Stations.{Footing, at_station, start, Pause, acts, reads, asks, signals, creates, calls_on, Reached, leads, pauses, fails, refuses, quits, stops}
+use Rattle.lz_stations.specs.Stations.{at_station, start, Pause, acts, reads, asks, signals, creates, calls_on, Reached, leads, pauses, fails, refuses, quits, stops}
 use Rattle.lz_stations.specs.Nears.{IsPlain}
-use Rattle.lz_stations.specs.StationTraces.{statement_resumed, paused, behind_reached}
+use Rattle.lz_stations.specs.StationTraces.{paused}
 use Rattle.lz_machine.specs.Threads.{Frame, frames_trace, Running, outside, Standing, going, failed, stopped, ended}
 use Rattle.lz_machine.specs.Answers as answers
 use Rattle.lz_machine.specs.Answers.{Answer, has_ended, is_cut, woken_by}

@@ -1,5 +1,5 @@
 -- Inner: how far a thread is from its next action: each call and each return brings it nearer, since no function of the program recurs.
-use Rattle.std.specs.Prelude.{ℕ, zero, suc, ◌+◌, ◌*◌, ◌<◌, ◌==◌, max, List, [], ◌∷◌, length, if◌then◌else◌, ⊤}
+use Rattle.std.specs.Prelude.{ℕ, zero, suc, ◌+◌, ◌*◌, ◌<◌, ◌==◌, max, List, [], ◌∷◌, if◌then◌else◌, ⊤}
 use Rattle.lz_tree.specs.ScopedTrees.{ScopedDefinition, ScopedProgram}
 use Rattle.lz_model.specs.Programs.{function_at}
 use Rattle.lz_stations.specs.StatementFits.{IsFitStatement}

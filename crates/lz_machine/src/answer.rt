@@ -1,4 +1,4 @@
-ghost use Rattle.std.specs.Prelude.{◌≡◌, IfOk, ◌%◌, true};
+ghost use Rattle.std.specs.Prelude.{◌≡◌, ℕ, IfOk, ◌%◌, true};
 ghost use Rattle.lz_base.specs.Words.{value_bound};
 ghost use Rattle.lz_stations.specs.Stations as stations;
 ghost use Rattle.lz_stations.specs.WalksHeld.{pause_of};
@@ -16,14 +16,8 @@ use lz_stations::Pause;
 #[derive(Drop)]
 pub enum Next {
     /// It reads a cell, whose word is to be read back.
-    Read {
-        cell: u32,
-        line: u32,
-    },
-    Act {
-        action: Action,
-        line: u32,
-    },
+    Read { cell: u32, line: u32 },
+    Act { action: Action, line: u32 },
     /// It gave its end before.
     Ended,
     /// Nothing more comes.
@@ -35,9 +29,7 @@ pub enum Next {
 pub enum ReadBack {
     Nothing,
     /// A word, or any number of which this is one modulo 2^32.
-    Value {
-        value: Value,
-    },
+    Value { value: Value },
 }
 
 /// Whether a thread goes on.
@@ -113,6 +105,7 @@ fn acted(action: Action, line: u32, running: Running, given: u32) -> Answered
 fn created(start: u32, value: u32, line: u32, running: Running) -> Result<Answered, Memory>
     ensures next { IfOk result (λ a. answer_of a.next ≡ spec.answer_to 0 true (spec.pausing (stations.creates start value line) (running_of running))) }
     ensures standing { IfOk result (λ a. standing_of a.standing ≡ spec.standing_behind 0 (spec.pausing (stations.creates start value line) (running_of running))) }
+    ensures word { IfOk result (λ a. words.HasWord (answer_of a.next)) }
 {
     let mut running = running;
     let thread = running.made;
@@ -132,6 +125,7 @@ fn created(start: u32, value: u32, line: u32, running: Running) -> Result<Answer
 fn paused_answer(choice: u64, pause: Pause, running: Running) -> Result<Answered, Memory>
     ensures next { IfOk result (λ a. answer_of a.next ≡ spec.answer_to choice true (spec.pausing (pause_of pause) (running_of running))) }
     ensures standing { IfOk result (λ a. standing_of a.standing ≡ spec.standing_behind choice (spec.pausing (pause_of pause) (running_of running))) }
+    ensures word { IfOk result (λ a. spec.IsPlainPause (pause_of pause) → words.HasWord (answer_of a.next)) }
 {
     match pause {
         Pause::Acts { action, line } => Ok(acted(action, line, running, 0)),
@@ -173,14 +167,10 @@ fn last(action: Action, line: u32, standing: Standing) -> Answered
 }
 
 /// The answer of a thread that came so far, to a choice. `whole` says whether its end ends the process.
-pub fn tell(
-    choice: u64,
-    whole: bool,
-    turned: Turned,
-    running: Running,
-) -> Result<Answered, Memory>
+pub fn tell(choice: u64, whole: bool, turned: Turned, running: Running) -> Result<Answered, Memory>
     ensures next { IfOk result (λ a. answer_of a.next ≡ spec.answer_to choice whole (turned_of turned running)) }
     ensures standing { IfOk result (λ a. standing_of a.standing ≡ spec.standing_behind choice (turned_of turned running)) }
+    ensures word { IfOk result (λ a. (made : ℕ) → spec.IsPausing (turned_of turned running) made → words.HasWord (answer_of a.next)) }
 {
     match turned {
         Turned::Again => Ok(Answered {

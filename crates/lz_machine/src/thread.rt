@@ -41,6 +41,7 @@ fn answer(
     requires fit { AreFitBodies (scoped_program program.now).functions }
     requires of { AreOf (scoped_program program.now).functions (running_of running).frames }
     ensures answers { IfOk result (λ a. Answers (scoped_program program.now) unwind choice (words.read_back (word_of read) (thread_with (going (running_of running)) whole)) (answer_of a.next) (thread_with (standing_of a.standing) whole)) }
+    ensures word { IfOk result (λ a. HasWord (answer_of a.next)) }
     ensures of { IfOk result (λ a. StandsOf (scoped_program program.now).functions (standing_of a.standing)) }
 {
     give(&mut running, read);
@@ -113,6 +114,7 @@ impl Thread {
         requires fit { AreFitBodies (scoped_program program.now).functions }
         requires of { IsOf (scoped_program program.now).functions (thread_of self.old) }
         ensures answers { IfOk result (λ next. Answers (scoped_program program.now) unwind choice (words.read_back (word_of read) (thread_of self.old)) (answer_of next) (thread_of self.new)) }
+        ensures word { IfOk result (λ next. HasWord (answer_of next)) }
         ensures of { IfOk result (λ _. IsOf (scoped_program program.now).functions (thread_of self.new)) }
     {
         match mem::replace(&mut self.standing, Standing::Stopped) {

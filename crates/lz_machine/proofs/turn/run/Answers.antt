@@ -1,7 +1,7 @@
 use Rattle.std.proofs.Common.{sym}
 use Rattle.lz_tree.specs.ScopedTrees.{scoped_program}
 use Rattle.lz_machine.specs.Held.{running_of, turned_of}
-use Rattle.lz_machine.proofs.AdvancesLemmas.{goes_on, has_come, further, nearer, arrived}
+use Rattle.lz_machine.proofs.AdvancesLemmas.{goes_on, has_come, further, arrived}
 use Rattle.lz_machine.proofs.turn.run.Goals as goal
 
 pub returns-then-not-goes_again : goal.returns-then-not-goes_again

@@ -1,7 +1,7 @@
-use Rattle.std.proofs.Common.{sym, ap, ◌∙◌, subst}
+use Rattle.std.proofs.Common.{ap}
 use Rattle.lz_tree.specs.ScopedTrees.{scoped_program, scoped_definition}
 use Rattle.lz_stations.specs.WalksHeld.{footing_of, reached_of}
-use Rattle.lz_machine.specs.Held.{callers_of, running_of, turned_of}
+use Rattle.lz_machine.specs.Held.{callers_of, turned_of}
 use Rattle.lz_machine.proofs.AdvancesLemmas.{advances, body_fits, is_found}
 use Rattle.lz_machine.proofs.turn.turn.Goals as goal
 

@@ -1,4 +1,4 @@
-use Rattle.std.proofs.Common.{sym, ◌∙◌, ap}
+use Rattle.std.proofs.Common.{◌∙◌, ap}
 use Rattle.std.proofs.Common.{◌++◌, ◌∷◌, []}
 use Rattle.lz_tree.specs.ScopedTrees.{scoped_program}
 use Rattle.lz_machine.specs.Held.{thread_of}
