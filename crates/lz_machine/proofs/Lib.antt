@@ -1,0 +1,11 @@
+pub mod ActionsLemmas
+pub mod AdvancesLemmas
+pub mod AnswersLemmas
+pub mod DepthLemmas
+pub mod FramesLemmas
+pub mod HeldLemmas
+pub mod PassingLemmas
+pub mod StartLemmas
+pub mod ThreadLemmas
+pub mod TurnsLemmas
+pub mod WeightsLemmas

@@ -1,0 +1,5 @@
+pub mod Answers
+pub mod Held
+pub mod Threads
+pub mod Turns
+pub mod Weights
