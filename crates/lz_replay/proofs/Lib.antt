@@ -3,3 +3,5 @@ pub mod ReadingLemmas
 pub mod LawsLemmas
 pub mod FollowsLemmas
 pub mod StandsLemmas
+pub mod RepliesLemmas
+pub mod AnswersLemmas
