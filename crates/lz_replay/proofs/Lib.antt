@@ -5,3 +5,5 @@ pub mod FollowsLemmas
 pub mod StandsLemmas
 pub mod RepliesLemmas
 pub mod AnswersLemmas
+pub mod TakingLemmas
+pub mod ReplayingLemmas
