@@ -1,8 +1,8 @@
 -- One step of a replay keeps its state, breaks, or shows that no run has it.
-use Rattle.std.proofs.Common.{◌≡◌, ◌≢◌, ℕ, zero, suc, ◌+◌, ◌<◌, ◌≤◌, ◌⊎◌, inl, inr, Bool, true, false, eqb, ltb, List, [], ◌∷◌, ◌++◌, length, get_or, Option, Some, None, refl, sym, ◌∙◌, ap, subst, arith}
+use Rattle.std.proofs.Common.{◌≡◌, ◌≢◌, ℕ, zero, suc, ◌+◌, ◌<◌, ◌≤◌, ◌⊎◌, inl, inr, Bool, true, false, eqb, ltb, cond, List, [], ◌∷◌, ◌++◌, length, take, get_or, Option, Some, None, refl, sym, ◌∙◌, ap, subst, arith}
 use Rattle.std.proofs.lemmas.Bool.{eqb-true, eqb-false}
 use Rattle.std.proofs.lemmas.Bool.Decides.{nat_tests}
-use Rattle.std.proofs.lemmas.List.{length-append}
+use Rattle.std.proofs.lemmas.List.{length-append, take_more}
 use Rattle.lz_base.specs.declared.word.BreakKind.{BreakKind}
 use Rattle.lz_tree.specs.ScopedTrees.{ScopedProgram}
 use Rattle.lz_model.specs.declared.actions.Action.{Action}
@@ -17,15 +17,17 @@ use Rattle.lz_store.specs.Answers.{answer_of, state_behind, IsWithin, last_threa
 use Rattle.lz_store.specs.declared.store.Acted.TheVariants as answers
 use Rattle.lz_machine.specs.Threads.{Thread, MayDo}
 use Rattle.lz_machine.specs.Starts.{IsThreadOf, IsStarted, StartsAs}
+use Rattle.lz_replay.specs.declared.answer.Replayed.TheVariants as replayed
+use Rattle.lz_replay.specs.Replays.{Says}
 use Rattle.lz_replay.specs.declared.threads.Held.{Held}
 use Rattle.lz_replay.specs.declared.threads.Taken.{Taken}
 use Rattle.lz_replay.specs.Stands.{Same, NoRun, Stands, Breaks, IsNext, Moves}
 use Rattle.lz_replay.specs.Taking.{room, Takes, TakesNone, thread_of, nobody, thread_at, HasMadeBy, HasMade, Begins}
 use Rattle.lz_replay.specs.declared.replaying.Stepped.{Stepped}
 use Rattle.lz_replay.specs.declared.replaying.Stepped.TheVariants.{Went, Blocked, Broke}
-use Rattle.lz_replay.specs.Replaying.{AreOf, IsReplay, TakesAt, HasActed, HasStepped}
+use Rattle.lz_replay.specs.Replaying.{AreOf, IsReplay, TakesAt, HasActed, HasStepped, broken}
 use Rattle.lz_replay.proofs.StandsLemmas.{creates_next, as_many_threads, no_step, is_blocked, is_broken, goes_further}
-use Rattle.lz_replay.proofs.RepliesLemmas.{open_program, idle_program, begins}
+use Rattle.lz_replay.proofs.RepliesLemmas.{open_program, idle_program, begins, blocked_there as not_further, broke_last, broke_before, came_through}
 
 -- ---- what a store answers
 
@@ -221,3 +223,40 @@ module _ (p : ScopedProgram) (n : ℕ) where
     steps_on taken held1 t Blocked after more h = taken_blocked taken held1 t h
     steps_on taken held1 t (Broke kind line) after more h =
         subst (λ (l : ℕ). Breaks (bare (process_of p n)) (steps ++ step ∷ []) kind l) (sym h.1) (taken_broken taken held1 t kind h.0)
+
+  -- the answer where a step breaks a check
+  pub broken_says : (schedule : List Step) (i : ℕ) → i < length schedule → (d : Step) (kind : BreakKind) (line : ℕ)
+      → Breaks (bare (process_of p n)) (take i schedule ++ get_or schedule i d ∷ []) kind line → Says p n schedule (broken kind line i (length schedule))
+  broken_says schedule i lt d kind line b = by (eqb (i + 1) (length schedule)) refl
+    where
+      by : (c : Bool) → eqb (i + 1) (length schedule) ≡ c → Says p n schedule (cond c (replayed.Broke kind line (i + 1)) (replayed.NotARun (i + 1)))
+      by true h = let all = eqb-true (i + 1) (length schedule) h in broke_last p n schedule i lt d kind line (i + 1) b all all
+      by false h = broke_before p n schedule i lt d kind line b (eqb-false (i + 1) (length schedule) h)
+
+  -- no run has the next step
+  pub none_says : (schedule : List Step) (i : ℕ) → i < length schedule → (d : Step) (s : State) (held : List Held) → IsReplay p n (take i schedule) s held
+      → NoRun (bare (process_of p n)) (take i schedule ++ get_or schedule i d ∷ []) → Says p n schedule (replayed.NotARun i)
+  none_says schedule i lt d s held is none = not_further p n schedule i lt d s (λ thread. MayDo p n (thread_at held thread)) is.stands none
+
+  -- all steps are taken
+  pub all_says : (schedule : List Step) (i : ℕ) (s : State) (held : List Held) → IsReplay p n (take i schedule) s held → length schedule ≤ i → Says p n schedule (replayed.Holds (length schedule))
+  all_says schedule i s held is all = came_through p n schedule (length schedule) i s (λ thread. MayDo p n (thread_at held thread)) is.stands all refl
+
+  pub one_more : (schedule : List Step) (i : ℕ) → i < length schedule → (d : Step) (s : State) (held : List Held) → IsReplay p n (take i schedule ++ get_or schedule i d ∷ []) s held → IsReplay p n (take (i + 1) schedule) s held
+  one_more schedule i lt d s held is = subst (λ (steps : List Step). IsReplay p n steps s held) (sym (take_more schedule i d lt)) is
+
+  -- ---- what a turn came to
+
+  pub turn_went : (schedule : List Step) (i : ℕ) → i < length schedule → (d : Step) (stepped : Stepped) (s : State) (held : List Held)
+      → HasStepped p n (take i schedule ++ get_or schedule i d ∷ []) stepped s held → stepped ≡ Went → IsReplay p n (take (i + 1) schedule) s held
+  turn_went schedule i lt d stepped s held h e = one_more schedule i lt d s held (subst (λ (x : Stepped). HasStepped p n (take i schedule ++ get_or schedule i d ∷ []) x s held) e h)
+
+  pub turn_blocked : (schedule : List Step) (i : ℕ) → i < length schedule → (d : Step) (stepped : Stepped) (s after : State) (held more : List Held) → IsReplay p n (take i schedule) s held
+      → HasStepped p n (take i schedule ++ get_or schedule i d ∷ []) stepped after more → stepped ≡ Blocked → Says p n schedule (replayed.NotARun i)
+  turn_blocked schedule i lt d stepped s after held more is h e =
+      none_says schedule i lt d s held is (subst (λ (x : Stepped). HasStepped p n (take i schedule ++ get_or schedule i d ∷ []) x after more) e h)
+
+  pub turn_broke : (schedule : List Step) (i : ℕ) → i < length schedule → (d : Step) (stepped : Stepped) (after : State) (more : List Held) (kind : BreakKind) (line : ℕ)
+      → HasStepped p n (take i schedule ++ get_or schedule i d ∷ []) stepped after more → stepped ≡ Broke kind line → Says p n schedule (broken kind line i (length schedule))
+  turn_broke schedule i lt d stepped after more kind line h e =
+      broken_says schedule i lt d kind line (subst (λ (x : Stepped). HasStepped p n (take i schedule ++ get_or schedule i d ∷ []) x after more) e h)

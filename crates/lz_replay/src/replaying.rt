@@ -164,6 +164,34 @@ fn go(
     }
 }
 
+/// Takes all steps of a schedule, from a replay that took none.
+fn through(
+    alloc: Global,
+    scoped: &Scoped,
+    order: &[u32],
+    unwind: u32,
+    steps: &[Step],
+    store: &mut Store,
+    threads: &mut Vec<Held>,
+) -> Result<Replayed, Memory>
+    requires program { IsRunnable (scoped_program scoped.now) order.now }
+    requires begins { IsReplay (scoped_program scoped.now) unwind [] store.old threads.old.items }
+    ensures { IfOk result (λ replayed. Says (scoped_program scoped.now) unwind steps.now replayed) }
+{
+    for i in 0..steps.len() {
+        let step = steps[i];
+        let stepped = go(alloc, scoped, order, unwind, step, store, threads)?;
+        match stepped {
+            Stepped::Went => {}
+            Stepped::Blocked => return Ok(Replayed::NotARun { index: i as u64 }),
+            Stepped::Broke { kind, line } => return Ok(broken(kind, line, i, steps.len())),
+        }
+    }
+    Ok(Replayed::Holds {
+        events: steps.len() as u64,
+    })
+}
+
 /// Runs a schedule: whether a run of the program, with at most `unwind` turns of each entered loop, follows it, and
 /// whether that run breaks a check. The time of each step is that of the thread's code up to its next action.
 pub fn replay(
@@ -178,23 +206,14 @@ pub fn replay(
 {
     let mut store = Store::new(alloc, scoped)?;
     let mut threads = begin(alloc, scoped)?;
-    let steps = schedule.items();
-    for i in 0..steps.len() {
-        match go(
-            alloc,
-            scoped,
-            order,
-            unwind,
-            steps[i],
-            &mut store,
-            &mut threads,
-        )? {
-            Stepped::Went => {}
-            Stepped::Blocked => return Ok(Replayed::NotARun { index: i as u64 }),
-            Stepped::Broke { kind, line } => return Ok(broken(kind, line, i, steps.len())),
-        }
-    }
-    Ok(Replayed::Holds {
-        events: steps.len() as u64,
-    })
+    let replayed = through(
+        alloc,
+        scoped,
+        order,
+        unwind,
+        schedule.items(),
+        &mut store,
+        &mut threads,
+    )?;
+    Ok(replayed)
 }
