@@ -1,23 +1,10 @@
-//! The resumable thread: code that stops between any two of its actions. What is here: `advance`, by which an expression
-//! goes on from any place in it up to its next action, and the steps of statements, each proved to lead to what is left
-//! of the traces, Loc left out.
+//! The resumable thread: it stops behind each of its actions but those on its own local values, and goes on from there.
 #![tactic(auto)]
 
-mod advancing;
-mod calls;
-mod laws;
-mod moves;
-mod nodes;
-mod parts;
-mod stage;
-mod statements;
-mod station;
-mod values;
-mod writes;
+mod answer;
+mod running;
+mod thread;
+mod turn;
 
-pub use advancing::advance;
-pub use laws::{a_turn_of_a_node, a_turn_of_a_statement, turns_end};
-pub use stage::{Came, Locals, Move, Place, Stage};
-pub use statements::station_move;
-pub use station::{Flow, Station, StationMove};
-pub use writes::station_writes;
+pub use answer::{Next, ReadBack};
+pub use thread::Thread;

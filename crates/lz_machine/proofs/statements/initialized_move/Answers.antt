@@ -1,9 +1,0 @@
-use Rattle.lz_machine.specs.StationMoves.{initialized_move}
-use Rattle.lz_machine.proofs.StatementsLemmas.{declarator_so, declarator_none}
-use Rattle.lz_machine.proofs.statements.initialized_move.Goals as goal
-
-pub returns-then-at-declarators : goal.returns-then-at-declarators
-returns-then-at-declarators c = declarator_so (λ o. initialized_move o c.args.at) c.args.declarators.now c.args.at c.index-declarators-at.result _ c.if-at-declarators.true c.index-declarators-at.is c.single_move.ensures
-
-pub returns-else-at-declarators : goal.returns-else-at-declarators
-returns-else-at-declarators c = declarator_none (λ o. initialized_move o c.args.at) c.args.declarators.now c.args.at c.if-at-declarators.false

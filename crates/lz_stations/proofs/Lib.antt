@@ -1,0 +1,3 @@
+pub mod StatementsLemmas
+pub mod StationRanksLemmas
+pub mod StationsLemmas

@@ -1,0 +1,5 @@
+pub mod StationMoves
+pub mod StationRanks
+pub mod StationTraces
+pub mod Stations
+pub mod StationsHeld

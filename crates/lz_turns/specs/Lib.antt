@@ -1,0 +1,9 @@
+pub mod Callees
+pub mod Fits
+pub mod Moves
+pub mod Ranks
+pub mod Resumed
+pub mod Seen
+pub mod Sizes
+pub mod Stages
+pub mod Turning

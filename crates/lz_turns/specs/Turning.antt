@@ -1,0 +1,42 @@
+-- Inner: a turn as code holds it, and what comes behind a part that came so far.
+use Rattle.std.specs.Prelude.{◌≡◌, ℕ, ⊤}
+use Rattle.lz_tree.specs.ScopedTrees.{ScopedExpression, ScopedProgram}
+use Rattle.lz_model.specs.CodeTraces.{Locals}
+use Rattle.lz_model.specs.Programs.{calls_within}
+use Rattle.lz_turns.specs.declared.advancing.Turned as held
+use Rattle.lz_turns.specs.declared.advancing.Turned.TheVariants.{Again, Stopped}
+use Rattle.lz_turns.specs.Stages.{Stage, stage_of, Came, settles, acts, reads, asks, signals, creates, calls_on, fails, refuses, quits, stops, came_of, enters, inside}
+use Rattle.lz_turns.specs.Seen.{Alike}
+use Rattle.lz_turns.specs.Resumed.{Turned, again, stopped, moved, behind, behind_turn}
+
+abbrev pub turned_of : held.Turned → Turned
+turned_of (Again stage value) = again (stage_of stage) value
+turned_of (Stopped came) = stopped (came_of came)
+
+-- a node whose part came so far: at the stage behind the part, with its value, or still within it
+abbrev pub turned_by : Stage → Came → Turned
+turned_by stage (settles value) = again stage value
+turned_by stage (acts action line point) = stopped (inside stage (acts action line point))
+turned_by stage (reads cell line point) = stopped (inside stage (reads cell line point))
+turned_by stage (asks line kind point) = stopped (inside stage (asks line kind point))
+turned_by stage (signals cond line point) = stopped (inside stage (signals cond line point))
+turned_by stage (creates routine value line point) = stopped (inside stage (creates routine value line point))
+turned_by stage (calls_on function kinds values point) = stopped (inside stage (calls_on function kinds values point))
+turned_by stage (fails kind line) = stopped (inside stage (fails kind line))
+turned_by stage (refuses line) = stopped (inside stage (refuses line))
+turned_by stage quits = stopped (inside stage quits)
+turned_by stage stops = stopped (inside stage stops)
+
+-- where a node is at a stage again, it is this one
+abbrev pub StaysAt : Stage → Turned → Type 0
+StaysAt stage (again next value) = next ≡ stage
+StaysAt stage (stopped came) = ⊤
+
+-- a node that enters the part behind which this stage comes leads to this turn
+pub record Entered (e : ScopedExpression) (stage : Stage) (before : Locals) (turned : Turned) (after : Locals) : Type 0 where
+  pub same : (p : ScopedProgram) (n depth : ℕ) → Alike (moved (calls_within p n depth) e (enters stage)) before (behind_turn (calls_within p n depth) e turned) after
+  pub stays : StaysAt stage turned
+
+-- a node comes so far behind this turn
+pub record ComesBehind (e : ScopedExpression) (turned : Turned) (before : Locals) (came : Came) (after : Locals) : Type 0 where
+  pub same : (p : ScopedProgram) (n depth : ℕ) → Alike (behind_turn (calls_within p n depth) e turned) before (behind (calls_within p n depth) e came) after

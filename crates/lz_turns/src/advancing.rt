@@ -1,0 +1,356 @@
+ghost use Rattle.std.specs.Prelude.{◌≡◌, IfOk};
+ghost use Rattle.lz_tree.specs.ScopedTrees.{scoped_expression};
+ghost use Rattle.lz_turns.specs.Stages.{stage_of, point_of, came_of, move_of, locals_of, inside, value_if_done};
+ghost use Rattle.lz_turns.specs.Stages as stages;
+ghost use Rattle.lz_turns.specs.Moves as spec;
+ghost use Rattle.lz_turns.specs.Moves.{turn_of, left_by, slot_of, part_of};
+ghost use Rattle.lz_turns.specs.Fits.{IsFit};
+ghost use Rattle.lz_turns.specs.Resumed.{Comes, PartComes, Turns};
+ghost use Rattle.lz_turns.specs.Ranks.{GoesDown, rank, count};
+ghost use Rattle.lz_turns.specs.Turning.{turned_of, turned_by, Entered, ComesBehind};
+
+use crate::calls::{
+    argued_move, arguing_move, argument_move, arguments, called, calling_move, handed_move,
+    made_move, made_writes, passing_move, woken_move,
+};
+use crate::nodes::{
+    begin_move, branch_move, first_move, indexed_move, old_move, old_writes, operand_move,
+    ready_move, second_move, valued_move, writing_move, writing_writes,
+};
+use crate::parts::part_at;
+use crate::stage::{Came, Locals, Move, Place, Stage};
+use lz_base::Memory;
+use lz_tree::ScopedExpr;
+use std::alloc::Global;
+
+/// A node that is done with this value.
+fn done(value: u32) -> Move
+    ensures { move_of result ≡ stages.comes (stages.settles value) }
+{
+    Move::Comes {
+        came: Came::Done { value },
+    }
+}
+
+/// A step of a node at a stage, with this value.
+fn moved(
+    alloc: Global,
+    e: &ScopedExpr,
+    stage: Stage,
+    value: u32,
+    locals: &mut Locals,
+) -> Result<Move, Memory>
+    requires { IsFit (scoped_expression e.now) }
+    ensures step { IfOk result (λ m. move_of m ≡ turn_of (scoped_expression e.now) (stage_of stage) value (locals_of locals.old)) }
+    ensures left { IfOk result (λ _. locals_of locals.new ≡ left_by (scoped_expression e.now) (stage_of stage) value (locals_of locals.old)) }
+{
+    match stage {
+        Stage::Start => Ok(begin_move(alloc, e)),
+        Stage::Given => Ok(done(value)),
+        Stage::Settled { value: own } => Ok(done(own)),
+        Stage::Indexed => Ok(indexed_move(e, value)),
+        Stage::Ready { element } => Ok(ready_move(e, element, locals)),
+        Stage::Old { element } => {
+            old_writes(e, element, value, locals)?;
+            Ok(old_move(e, element, value))
+        }
+        Stage::Valued { at } => Ok(valued_move(e, at, value)),
+        Stage::Writing {
+            element,
+            value: own,
+        } => {
+            writing_writes(e, element, own, locals)?;
+            Ok(writing_move(e, element, own))
+        }
+        Stage::Operand { element, old } => Ok(operand_move(e, element, old, value)),
+        Stage::First => Ok(first_move(e, value)),
+        Stage::Second { a } => Ok(second_move(e, a, value)),
+        Stage::Taken => Ok(branch_move(true, e, value)),
+        Stage::Other => Ok(branch_move(false, e, value)),
+        Stage::Calling { values } => calling_move(alloc, called(e), arguments(e), values),
+        Stage::Argument { values } => argument_move(called(e), values, value),
+        Stage::Passing { objects, at } => Ok(passing_move(
+            alloc,
+            called(e),
+            arguments(e),
+            objects,
+            at,
+        )),
+        Stage::Handed { objects, at } => handed_move(called(e), arguments(e), objects, at, value),
+        Stage::Arguing {
+            objects,
+            values,
+            at,
+        } => { Ok(arguing_move(called(e), arguments(e), objects, values, at, locals)) }
+        Stage::Argued {
+            objects,
+            values,
+            at,
+        } => { argued_move(called(e), arguments(e), objects, values, at, value) }
+        Stage::Woken { cond, mutex } => Ok(woken_move(called(e), cond, mutex)),
+        Stage::Made { handle } => {
+            made_writes(called(e), handle, value, locals)?;
+            Ok(made_move(called(e)))
+        }
+    }
+}
+
+/// The value of what is done.
+fn done_value(came: &Came) -> Option<u32>
+    ensures { result ≡ value_if_done (came_of came.now) }
+{
+    match came {
+        Came::Done { value } => Some(*value),
+        Came::Acts { .. }
+        | Came::Reads { .. }
+        | Came::Asks { .. }
+        | Came::Signals { .. }
+        | Came::Creates { .. }
+        | Came::Calls { .. }
+        | Came::Fails { .. }
+        | Came::Refuses { .. }
+        | Came::Exits
+        | Came::Stops => None,
+    }
+}
+
+/// A place in a part, behind which its node is at this stage.
+fn within(alloc: Global, stage: Stage, inner: Place) -> Result<Place, Memory>
+    ensures { IfOk result (λ place. point_of place ≡ stages.within (stage_of stage) (point_of inner)) }
+{
+    let inner = Box::new(alloc, inner)?;
+    Ok(Place::Within { stage, inner })
+}
+
+/// What came so far in a part, behind which its node is at this stage.
+fn came_within(alloc: Global, stage: Stage, came: Came) -> Result<Came, Memory>
+    ensures { IfOk result (λ whole. came_of whole ≡ inside (stage_of stage) (came_of came)) }
+{
+    match came {
+        Came::Done { value } => Ok(Came::Done { value }),
+        Came::Acts {
+            action,
+            line,
+            place,
+        } => {
+            let place = within(alloc, stage, place)?;
+            Ok(Came::Acts {
+                action,
+                line,
+                place,
+            })
+        }
+        Came::Reads { cell, line, place } => {
+            let place = within(alloc, stage, place)?;
+            Ok(Came::Reads { cell, line, place })
+        }
+        Came::Asks { line, kind, place } => {
+            let place = within(alloc, stage, place)?;
+            Ok(Came::Asks { line, kind, place })
+        }
+        Came::Signals { cond, line, place } => {
+            let place = within(alloc, stage, place)?;
+            Ok(Came::Signals { cond, line, place })
+        }
+        Came::Creates {
+            start,
+            value,
+            line,
+            place,
+        } => {
+            let place = within(alloc, stage, place)?;
+            Ok(Came::Creates {
+                start,
+                value,
+                line,
+                place,
+            })
+        }
+        Came::Calls {
+            function,
+            kinds,
+            values,
+            place,
+        } => {
+            let place = within(alloc, stage, place)?;
+            Ok(Came::Calls {
+                function,
+                kinds,
+                values,
+                place,
+            })
+        }
+        Came::Fails { kind, line } => Ok(Came::Fails { kind, line }),
+        Came::Refuses { line } => Ok(Came::Refuses { line }),
+        Came::Exits => Ok(Came::Exits),
+        Came::Stops => Ok(Came::Stops),
+    }
+}
+
+/// How far one turn of a node came.
+#[derive(Drop)]
+pub enum Turned {
+    /// To another stage, with this value.
+    Again { stage: Stage, value: u32 },
+    Stopped { came: Came },
+}
+
+/// What a turn leads to where the part behind which its node comes to this stage came so far.
+fn behind_part(alloc: Global, stage: Stage, came: Came) -> Result<Turned, Memory>
+    ensures { IfOk result (λ t. turned_of t ≡ turned_by (stage_of stage) (came_of came)) }
+{
+    match done_value(&came) {
+        Some(value) => Ok(Turned::Again { stage, value }),
+        None => {
+            let came = came_within(alloc, stage, came)?;
+            Ok(Turned::Stopped { came })
+        }
+    }
+}
+
+/// Goes on in the part behind which a node comes to this stage.
+#[cycle(advance)]
+fn part(
+    alloc: Global,
+    e: &ScopedExpr,
+    stage: &Stage,
+    place: Place,
+    given: u32,
+    locals: &mut Locals,
+) -> Result<Came, Memory>
+    requires { IsFit (scoped_expression e.now) }
+    ensures { IfOk result (λ came. PartComes (part_of (scoped_expression e.now) (slot_of (stage_of stage.now))) (point_of place) given (locals_of locals.old) (came_of came) (locals_of locals.new)) }
+{
+    match part_at(e, stage) {
+        None => Ok(Came::Stops),
+        Some(inner) => {
+            let came = advance(alloc, inner, place, given, locals)?;
+            Ok(came)
+        }
+    }
+}
+
+/// Enters the part behind which a node comes to this stage.
+#[cycle(advance)]
+fn enter(alloc: Global, e: &ScopedExpr, stage: Stage, locals: &mut Locals) -> Result<Turned, Memory>
+    requires { IsFit (scoped_expression e.now) }
+    ensures { IfOk result (λ t. Entered (scoped_expression e.now) (stage_of stage) (locals_of locals.old) (turned_of t) (locals_of locals.new)) }
+{
+    let came = part(
+        alloc,
+        e,
+        &stage,
+        Place::At {
+            stage: Stage::Start,
+        },
+        0,
+        locals,
+    )?;
+    let turned = behind_part(alloc, stage, came)?;
+    Ok(turned)
+}
+
+/// One turn of a node from a stage on, with this value.
+#[cycle(advance)]
+fn turn(
+    alloc: Global,
+    e: &ScopedExpr,
+    stage: Stage,
+    value: u32,
+    locals: &mut Locals,
+) -> Result<Turned, Memory>
+    requires { IsFit (scoped_expression e.now) }
+    ensures same { IfOk result (λ t. Turns (scoped_expression e.now) (stage_of stage) value (locals_of locals.old) (turned_of t) (locals_of locals.new)) }
+    ensures down { IfOk result (λ t. GoesDown (count (spec.arguments_of (scoped_expression e.now))) (rank (scoped_expression e.now) (stage_of stage)) (turned_of t)) }
+{
+    match moved(alloc, e, stage, value, locals)? {
+        Move::Comes { came } => Ok(Turned::Stopped { came }),
+        Move::Goes {
+            stage: next,
+            value: held,
+        } => Ok(Turned::Again {
+            stage: next,
+            value: held,
+        }),
+        Move::Enters { stage: next } => {
+            let turned = enter(alloc, e, next, locals)?;
+            Ok(turned)
+        }
+    }
+}
+
+/// Goes on from a stage, with this value, up to the next action.
+#[cycle(advance)]
+fn go_on(
+    alloc: Global,
+    e: &ScopedExpr,
+    stage: Stage,
+    value: u32,
+    locals: &mut Locals,
+) -> Result<Came, Memory>
+    requires { IsFit (scoped_expression e.now) }
+    ensures { IfOk result (λ came. Comes (scoped_expression e.now) (stages.at_stage (stage_of stage)) value (locals_of locals.old) (came_of came) (locals_of locals.new)) }
+{
+    let mut now = stage;
+    let mut held = value;
+    loop {
+        match turn(alloc, e, now, held, locals)? {
+            Turned::Again {
+                stage: next,
+                value: given,
+            } => {
+                now = next;
+                held = given;
+            }
+            Turned::Stopped { came } => return Ok(came),
+        }
+    }
+}
+
+/// Goes on behind a part that came so far.
+#[cycle(advance)]
+fn go_behind(
+    alloc: Global,
+    e: &ScopedExpr,
+    turned: Turned,
+    locals: &mut Locals,
+) -> Result<Came, Memory>
+    requires { IsFit (scoped_expression e.now) }
+    ensures { IfOk result (λ came. ComesBehind (scoped_expression e.now) (turned_of turned) (locals_of locals.old) (came_of came) (locals_of locals.new)) }
+{
+    match turned {
+        Turned::Again { stage, value } => {
+            let came = go_on(alloc, e, stage, value, locals)?;
+            Ok(came)
+        }
+        Turned::Stopped { came } => Ok(came),
+    }
+}
+
+/// Goes on from a place of an expression, where this value is given, up to the next action or to the end. What the
+/// expression may do from there is what it may do where it came so far, Loc left out, however deep its calls may go.
+/// The time is that of the way down to the place, and of the steps that are no actions.
+#[cycle(advance)]
+pub fn advance(
+    alloc: Global,
+    e: &ScopedExpr,
+    place: Place,
+    given: u32,
+    locals: &mut Locals,
+) -> Result<Came, Memory>
+    requires { IsFit (scoped_expression e.now) }
+    ensures { IfOk result (λ came. Comes (scoped_expression e.now) (point_of place) given (locals_of locals.old) (came_of came) (locals_of locals.new)) }
+{
+    match place {
+        Place::At { stage } => {
+            let came = go_on(alloc, e, stage, given, locals)?;
+            Ok(came)
+        }
+        Place::Within { stage, inner } => {
+            let came = part(alloc, e, &stage, Box::into_inner(inner), given, locals)?;
+            let turned = behind_part(alloc, stage, came)?;
+            let came = go_behind(alloc, e, turned, locals)?;
+            Ok(came)
+        }
+    }
+}
