@@ -3,3 +3,7 @@ pub mod ReadingLemmas
 pub mod LawsLemmas
 pub mod FollowsLemmas
 pub mod StandsLemmas
+pub mod RepliesLemmas
+pub mod AnswersLemmas
+pub mod TakingLemmas
+pub mod ReplayingLemmas

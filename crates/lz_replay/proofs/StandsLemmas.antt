@@ -135,7 +135,7 @@ same_start : (one other : Start) → Some one ≡ Some other → one ≡ other
 same_start one other e = cc
 
 -- no other action makes one
-as_many_threads : (s : State) (t : ℕ) (a : Action) (s1 : State) → started_by a ≡ None → act s t a ≡ went s1 → length s1.threads ≡ length s.threads
+pub as_many_threads : (s : State) (t : ℕ) (a : Action) (s1 : State) → started_by a ≡ None → act s t a ≡ went s1 → length s1.threads ≡ length s.threads
 as_many_threads s t a s1 none goes = by (grows s t a s1 goes)
   where
     by : Grows s a s1 → length s1.threads ≡ length s.threads

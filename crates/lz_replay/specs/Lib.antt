@@ -3,3 +3,5 @@ pub mod Reading
 pub mod Refusals
 pub mod Replays
 pub mod Stands
+pub mod Taking
+pub mod Replaying
