@@ -1,5 +1,5 @@
 -- From the answer of a thread to the next action of a replay.
-use Rattle.std.proofs.Common.{◌≡◌, ◌≢◌, ℕ, zero, suc, ◌+◌, ◌-◌, ◌^◌, ◌<◌, ◌≤◌, ◌⊎◌, inl, inr, min, Bool, true, false, ◌&&◌, ◌||◌, eqb, ltb, cond, List, [], ◌∷◌, length, slice_index, Option, Some, None, refl, sym, ◌∙◌, ap, subst, arith}
+use Rattle.std.proofs.Common.{◌≡◌, ◌≢◌, ℕ, ◌+◌, ◌-◌, ◌<◌, ◌≤◌, inl, inr, min, Bool, true, false, ◌&&◌, ◌||◌, eqb, ltb, cond, List, [], ◌∷◌, length, slice_index, Option, Some, None, refl, sym, ◌∙◌, ap, subst, arith}
 use Rattle.std.proofs.lemmas.Bool.{eqb-true, eqb-false}
 use Rattle.std.proofs.lemmas.Bool.Decides.{nat_tests}
 use Rattle.lz_base.specs.Words.{value_bound}
@@ -8,11 +8,11 @@ use Rattle.lz_model.specs.declared.actions.Action.{Action}
 use Rattle.lz_model.specs.declared.actions.Action.TheVariants.{Loc, Input, Check, Assume, Rd, Wr, Reset, Lock, Unlock, Park, Wake, Signal, Broadcast, Create, Join, HoldOn, HoldOff, End}
 use Rattle.lz_model.specs.declared.schedule.Step.{Step}
 use Rattle.lz_model.specs.Actions.{Act, choice_of}
-use Rattle.lz_model.specs.Store.{State, Acted, went, blocked, is_made, waits_on, thread_at, awake, with_thread, is_halted, held_by_another, goes_where, act}
+use Rattle.lz_model.specs.Store.{State, blocked, is_made, waits_on, thread_at, awake, with_thread, is_halted, held_by_another, goes_where, act}
 use Rattle.lz_model.specs.CodeTraces.{at}
 use Rattle.lz_model.proofs.OneRunLemmas.{read_finds, woken_is}
 use Rattle.lz_machine.specs.Threads.{Standing, going, failed, stopped, ended, Thread, MayGo, MayDo}
-use Rattle.lz_machine.specs.Answers.{reads, acts, has_ended, is_cut, read_back, woken_by, HasChosen, StandsFor, HasChoice, IsAsked, IsBehind, Answers}
+use Rattle.lz_machine.specs.Answers.{reads, acts, has_ended, is_cut, read_back, woken_by, HasChosen, StandsFor, HasChoice, Answers}
 use Rattle.lz_replay.specs.Stands.{Same, IsNext}
 
 -- ---- actions and choices

@@ -8,11 +8,11 @@ use Rattle.lz_tree.specs.ScopedTrees.{ScopedProgram}
 use Rattle.lz_model.specs.declared.actions.Action.{Action}
 use Rattle.lz_model.specs.declared.actions.Action.TheVariants.{Loc, Input, Check, Assume, Rd, Wr, Reset, Lock, Unlock, Park, Wake, Signal, Broadcast, Create, Join, HoldOn, HoldOff, End}
 use Rattle.lz_model.specs.declared.schedule.Step.{Step}
-use Rattle.lz_model.specs.Actions.{Act, choice_of, Start, started_by}
+use Rattle.lz_model.specs.Actions.{Act, Start, started_by}
 use Rattle.lz_model.specs.Store.{State, Acted, went, blocked, broke, act}
 use Rattle.lz_model.specs.CodeTraces.{at}
-use Rattle.lz_model.specs.Programs.{IsThreadTrace, process_of}
-use Rattle.lz_model.specs.WithoutLoc.{IsSeen, bare}
+use Rattle.lz_model.specs.Programs.{process_of}
+use Rattle.lz_model.specs.WithoutLoc.{bare}
 use Rattle.lz_store.specs.Answers.{answer_of, state_behind, IsWithin, last_thread}
 use Rattle.lz_store.specs.declared.store.Acted.TheVariants as answers
 use Rattle.lz_machine.specs.Threads.{Thread, MayDo}
@@ -21,7 +21,7 @@ use Rattle.lz_replay.specs.Replays.{Says}
 use Rattle.lz_replay.specs.declared.threads.Held.{Held}
 use Rattle.lz_replay.specs.declared.threads.Taken.{Taken}
 use Rattle.lz_replay.specs.Stands.{Same, NoRun, Stands, Breaks, IsNext, Moves}
-use Rattle.lz_replay.specs.Taking.{room, Takes, TakesNone, thread_of, nobody, thread_at, IsHeldOf, IsAdded, HasMadeBy, HasMade}
+use Rattle.lz_replay.specs.Taking.{TakesNone, thread_of, nobody, thread_at, IsHeldOf, IsAdded, HasMadeBy, HasMade}
 use Rattle.lz_replay.specs.declared.replaying.Stepped.{Stepped}
 use Rattle.lz_replay.specs.declared.replaying.Stepped.TheVariants.{Went, Blocked, Broke}
 use Rattle.lz_replay.specs.Replaying.{AreOf, IsReplay, TakesAt, HasActed, HasStepped, broken}

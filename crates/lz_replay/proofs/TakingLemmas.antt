@@ -1,5 +1,5 @@
 -- What an answer stands for is what a thread may do next.
-use Rattle.std.proofs.Common.{◌≡◌, ◌≢◌, ℕ, zero, suc, ◌<◌, ◌≤◌, Bool, true, false, ◌&&◌, eqb, ltb, List, [], ◌∷◌, slice_index, Option, Some, None, refl, sym, ◌∙◌, ap, subst, arith}
+use Rattle.std.proofs.Common.{◌≡◌, ◌≢◌, ℕ, ◌<◌, ◌≤◌, Bool, true, false, ◌&&◌, eqb, ltb, ◌∷◌, slice_index, Option, Some, None, refl, sym, ap, subst, arith}
 use Rattle.std.proofs.lemmas.Bool.{eqb-true, eqb-false}
 use Rattle.std.proofs.lemmas.Bool.Decides.{nat_tests}
 use Rattle.std.proofs.Math.Nat.{mod-eq_of_lt}
@@ -7,7 +7,7 @@ use Rattle.lz_base.specs.Words.{value_bound}
 use Rattle.lz_tree.specs.ScopedTrees.{ScopedProgram}
 use Rattle.lz_model.specs.declared.actions.Action.{Action}
 use Rattle.lz_model.specs.declared.actions.Action.TheVariants.{Rd}
-use Rattle.lz_model.specs.Actions.{Act, choice_of}
+use Rattle.lz_model.specs.Actions.{choice_of}
 use Rattle.lz_model.specs.Store.{State}
 use Rattle.lz_model.specs.CodeTraces.{at}
 use Rattle.lz_machine.specs.Threads.{Standing, going, failed, stopped, ended, Thread, MayDo}
@@ -15,7 +15,7 @@ use Rattle.lz_machine.specs.Answers.{Answer, reads, acts, has_ended, is_cut, giv
 use Rattle.lz_machine.specs.declared.answer.ReadBack.TheVariants as back
 use Rattle.lz_replay.specs.Stands.{Same}
 use Rattle.lz_replay.specs.Lines.{some_where}
-use Rattle.lz_replay.specs.Taking.{is_chosen, acted, found, taken_of, TakesNone, Takes, IsTaken}
+use Rattle.lz_replay.specs.Taking.{is_chosen, taken_of, IsTaken}
 use Rattle.lz_replay.proofs.AnswersLemmas.{act_next, act_here, act_other, read_next, read_here, read_chosen, read_large, ended_none, cut_none}
 
 chosen_is : (o : Option ℕ) (choice : ℕ) → is_chosen o choice ≡ true → o ≡ Some choice
