@@ -1,5 +1,6 @@
 -- From the answer of a thread to the next action of a replay.
-use Rattle.std.proofs.Common.{◌≡◌, ◌≢◌, ℕ, zero, suc, ◌+◌, ◌-◌, ◌^◌, ◌<◌, ◌≤◌, ◌⊎◌, inl, inr, min, Bool, true, false, ◌&&◌, ◌||◌, eqb, ltb, cond, List, [], ◌∷◌, length, slice_index, Option, Some, None, refl, sym, ◌∙◌, ap, subst, arith}
+use Rattle.std.proofs.Common.{◌≡◌, ◌≢◌, ℕ, ◌+◌, ◌-◌, ◌<◌, ◌≤◌, inl, inr, min, Bool, true, false, ◌&&◌, ◌||◌, eqb, ltb, cond, List, [], ◌∷◌, length, slice_index, Option, Some, None, refl, sym, ◌∙◌, ap, subst, arith}
+use Rattle.std.proofs.lemmas.Bool.{eqb-true, eqb-false}
 use Rattle.std.proofs.lemmas.Bool.Decides.{nat_tests}
 use Rattle.lz_base.specs.Words.{value_bound}
 use Rattle.lz_tree.specs.ScopedTrees.{ScopedProgram}
@@ -7,11 +8,11 @@ use Rattle.lz_model.specs.declared.actions.Action.{Action}
 use Rattle.lz_model.specs.declared.actions.Action.TheVariants.{Loc, Input, Check, Assume, Rd, Wr, Reset, Lock, Unlock, Park, Wake, Signal, Broadcast, Create, Join, HoldOn, HoldOff, End}
 use Rattle.lz_model.specs.declared.schedule.Step.{Step}
 use Rattle.lz_model.specs.Actions.{Act, choice_of}
-use Rattle.lz_model.specs.Store.{State, Acted, went, blocked, is_made, waits_on, thread_at, awake, with_thread, is_halted, held_by_another, goes_where, act}
+use Rattle.lz_model.specs.Store.{State, blocked, is_made, waits_on, thread_at, awake, with_thread, is_halted, held_by_another, goes_where, act}
 use Rattle.lz_model.specs.CodeTraces.{at}
 use Rattle.lz_model.proofs.OneRunLemmas.{read_finds, woken_is}
 use Rattle.lz_machine.specs.Threads.{Standing, going, failed, stopped, ended, Thread, MayGo, MayDo}
-use Rattle.lz_machine.specs.Answers.{reads, acts, has_ended, is_cut, read_back, woken_by, HasChosen, StandsFor, HasChoice, IsAsked, IsBehind, Answers}
+use Rattle.lz_machine.specs.Answers.{reads, acts, has_ended, is_cut, read_back, woken_by, HasChosen, StandsFor, HasChoice, Answers}
 use Rattle.lz_replay.specs.Stands.{Same, IsNext}
 
 -- ---- actions and choices
@@ -92,25 +93,25 @@ signal_made s t cond_ u goes =
     below true c e h = grind (arith, nat_tests)
     below false c e h = absurd cc
 
+some_is : (a b : ℕ) → Some a ≡ Some b → a ≡ b
+some_is a b e = cc
+
 -- a signal that wakes the chosen thread, which is among the first, is answered
 signal_chosen : (s : State) (t cond_ choice : ℕ) (w v : Option ℕ) → length s.threads ≤ 17 → w ≡ woken_by choice → choice_of (Signal cond_ v) ≡ Some choice → act s t (Signal cond_ v) ≢ blocked
     → choice_of (Signal cond_ w) ≡ Some choice
-signal_chosen s t cond_ zero w v few is chosen goes = ap (λ (o : Option ℕ). choice_of (Signal cond_ o)) is
-signal_chosen s t cond_ (suc k) w None few is chosen goes = absurd (no (suc k) chosen refl)
+signal_chosen s t cond_ choice w v few is chosen goes = by (eqb choice 0) refl v chosen goes
   where
-    no : (c : ℕ) → Some 0 ≡ Some c → c ≡ suc k → ⊥
-    no c e h = let z : 0 ≡ c = cc in let n : ⊥ = omega (arith, z, h) in n
-signal_chosen s t cond_ (suc k) w (Some u) few is chosen goes =
-    let same : u + 1 ≡ suc k = some_is (u + 1) (suc k) chosen in
-    let made = signal_made s t cond_ u goes in
-    let least : min k (2 ^ 32 - 1) + 1 ≡ suc k = small k u same made few in
-    ap (λ (o : Option ℕ). choice_of (Signal cond_ o)) is ∙ ap (λ (c : ℕ). Some c) least
-  where
-    some_is : (a b : ℕ) → Some a ≡ Some b → a ≡ b
-    some_is a b e = cc
+    woken_is_at : (b : Bool) → eqb choice 0 ≡ b → w ≡ cond b None (Some (min (choice - 1) (value_bound - 1)))
+    woken_is_at b h = is ∙ ap (λ (c : Bool). cond c None (Some (min (choice - 1) (value_bound - 1)))) h
 
-    small : (k u : ℕ) → u + 1 ≡ suc k → u < length s.threads → length s.threads ≤ 17 → min k (2 ^ 32 - 1) + 1 ≡ suc k
-    small k u same made few = omega (arith, same, made, few)
+    small : (u : ℕ) → u + 1 ≡ choice → u < length s.threads → min (choice - 1) (value_bound - 1) + 1 ≡ choice
+    small u same made = omega (arith, same, made, few)
+
+    by : (b : Bool) → eqb choice 0 ≡ b → (o : Option ℕ) → choice_of (Signal cond_ o) ≡ Some choice → act s t (Signal cond_ o) ≢ blocked → choice_of (Signal cond_ w) ≡ Some choice
+    by true h o c g = ap (λ (x : Option ℕ). choice_of (Signal cond_ x)) (woken_is_at true h) ∙ ap (λ (x : ℕ). Some x) (sym (eqb-true choice 0 h))
+    by false h None c g = absurd (eqb-false choice 0 h (sym (some_is 0 choice c)))
+    by false h (Some u) c g =
+        ap (λ (x : Option ℕ). choice_of (Signal cond_ x)) (woken_is_at false h) ∙ ap (λ (x : ℕ). Some x) (small u (some_is (u + 1) choice c) (signal_made s t cond_ u g))
 
 -- what stands for an answered action, has the choice and goes: then the answered one has the choice
 other_chosen : (a o : Action) (choice : ℕ) (s : State) (t : ℕ) → length s.threads ≤ 17 → HasChosen choice a → StandsFor a o → choice_of o ≡ Some choice → act s t o ≢ blocked → choice_of a ≡ Some choice

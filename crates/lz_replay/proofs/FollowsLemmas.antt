@@ -1,15 +1,14 @@
 -- Runs that follow a schedule: their fronts, and that one answer of a replay is right.
-use Rattle.std.proofs.Common.{◌≡◌, ◌≢◌, ℕ, zero, suc, ◌+◌, ◌<◌, ◌≤◌, ◌⊎◌, inl, inr, List, [], ◌∷◌, ◌++◌, length, take, drop, Option, Some, None, refl, sym, ◌∙◌, ap, subst, arith}
+use Rattle.std.proofs.Common.{◌≡◌, ℕ, zero, suc, ◌+◌, ◌<◌, ◌≤◌, List, [], ◌∷◌, ◌++◌, take, drop, Option, Some, None, refl, sym, ◌∙◌, ap, subst, arith}
 use Rattle.std.proofs.lemmas.List.{take-append-drop}
 use Rattle.lz_base.specs.declared.word.BreakKind.{BreakKind}
 use Rattle.lz_tree.specs.ScopedTrees.{ScopedProgram}
 use Rattle.lz_model.specs.declared.actions.Event.{Event}
 use Rattle.lz_model.specs.declared.schedule.Step.{Step}
 use Rattle.lz_model.specs.Actions.{choice_of}
-use Rattle.lz_model.specs.Interleavings.{Course, broken, course, IsRun}
-use Rattle.lz_model.specs.BrokenRuns.{step_with, steps_of, schedule_of, Follows}
+use Rattle.lz_model.specs.Interleavings.{broken, course, IsRun}
+use Rattle.lz_model.specs.BrokenRuns.{step_with, schedule_of, Follows}
 use Rattle.lz_model.specs.Programs.{process_of}
-use Rattle.lz_model.specs.WithoutLoc.{events_without_loc}
 use Rattle.lz_model.proofs.RunFrontsLemmas.{front_of_run}
 use Rattle.lz_model.proofs.ThreadFrontsLemmas.{program_is_open}
 use Rattle.lz_model.proofs.LocLemmas.{bare_course}

@@ -8,21 +8,20 @@ use Rattle.lz_tree.specs.ScopedTrees.{ScopedProgram}
 use Rattle.lz_model.specs.declared.actions.Action.{Action}
 use Rattle.lz_model.specs.declared.actions.Action.TheVariants.{Loc, Input, Check, Assume, Rd, Wr, Reset, Lock, Unlock, Park, Wake, Signal, Broadcast, Create, Join, HoldOn, HoldOff, End}
 use Rattle.lz_model.specs.declared.schedule.Step.{Step}
-use Rattle.lz_model.specs.Actions.{Act, choice_of, Start, started_by}
+use Rattle.lz_model.specs.Actions.{Act, Start, started_by}
 use Rattle.lz_model.specs.Store.{State, Acted, went, blocked, broke, act}
 use Rattle.lz_model.specs.CodeTraces.{at}
-use Rattle.lz_model.specs.Programs.{IsThreadTrace, process_of}
-use Rattle.lz_model.specs.WithoutLoc.{IsSeen, bare}
+use Rattle.lz_model.specs.Programs.{process_of}
+use Rattle.lz_model.specs.WithoutLoc.{bare}
 use Rattle.lz_store.specs.Answers.{answer_of, state_behind, IsWithin, last_thread}
 use Rattle.lz_store.specs.declared.store.Acted.TheVariants as answers
 use Rattle.lz_machine.specs.Threads.{Thread, MayDo}
-use Rattle.lz_machine.specs.Starts.{IsThreadOf, IsStarted, StartsAs}
 use Rattle.lz_replay.specs.declared.answer.Replayed.TheVariants as replayed
 use Rattle.lz_replay.specs.Replays.{Says}
 use Rattle.lz_replay.specs.declared.threads.Held.{Held}
 use Rattle.lz_replay.specs.declared.threads.Taken.{Taken}
 use Rattle.lz_replay.specs.Stands.{Same, NoRun, Stands, Breaks, IsNext, Moves}
-use Rattle.lz_replay.specs.Taking.{room, Takes, TakesNone, thread_of, nobody, thread_at, HasMadeBy, HasMade, Begins}
+use Rattle.lz_replay.specs.Taking.{TakesNone, thread_of, nobody, thread_at, IsHeldOf, IsAdded, HasMadeBy, HasMade}
 use Rattle.lz_replay.specs.declared.replaying.Stepped.{Stepped}
 use Rattle.lz_replay.specs.declared.replaying.Stepped.TheVariants.{Went, Blocked, Broke}
 use Rattle.lz_replay.specs.Replaying.{AreOf, IsReplay, TakesAt, HasActed, HasStepped, broken}
@@ -99,15 +98,15 @@ within_is (End w) start e within = absurd cc
 module _ (p : ScopedProgram) (n : ℕ) where
   -- ---- the beginning
 
-  pub is_begun : (held : List Held) → Begins p held → (s : State) → s ≡ (process_of p n).begins → IsReplay p n [] s held
-  is_begun held b s e = subst (λ (x : State). IsReplay p n [] x held) (sym e) (subst (λ (h : List Held). IsReplay p n [] (process_of p n).begins h) (sym b.3) (record {
-    stands = begins p n (λ thread. MayDo p n (thread_at (b.0 ∷ []) thread)) (record { there = λ acts h. b.1.back n acts h; back = λ acts h. b.1.there n acts h });
+  pub is_begun : (held : List Held) → IsAdded p None 0 [] held → (s : State) → s ≡ (process_of p n).begins → IsReplay p n [] s held
+  is_begun held a s e = subst (λ (x : State). IsReplay p n [] x held) (sym e) (subst (λ (h : List Held). IsReplay p n [] (process_of p n).begins h) (sym a.is) (record {
+    stands = begins p n (λ thread. MayDo p n (thread_at (a.last ∷ []) thread)) (record { there = λ acts h. a.begun.begins.back n acts h; back = λ acts h. a.begun.begins.there n acts h });
     count = refl;
     few = omega arith;
-    own = record { each = only b.0 b.2 };
+    own = record { each = only a.last a.begun.own };
   }))
     where
-      only : (one : Held) → IsThreadOf p one.thread → (k : ℕ) (d : Held) → k < 1 → IsThreadOf p (get_or (one ∷ []) k d).thread
+      only : (one : Held) → IsHeldOf p one → (k : ℕ) (d : Held) → k < 1 → IsHeldOf p (get_or (one ∷ []) k d)
       only one h zero d lt = h
       only one h (suc k) d lt = absurd (let no : ⊥ = omega (arith, lt) in no)
 
@@ -182,36 +181,36 @@ module _ (p : ScopedProgram) (n : ℕ) where
         goes_by (Some start) starts within more made =
             let next = creates_next s step.thread taken.action after start starts goes in
             let k = number in
-            let longer = ap (λ (h : List Held). length h) made.3 ∙ length-append held1 (made.0 ∷ []) in
+            let longer = ap (λ (h : List Held). length h) made.is ∙ length-append held1 (made.last ∷ []) in
             let grown = next.1 in
             let below = within_is taken.action start starts within in
             let at_ = next.0 in
             record {
               stands = stands_on more (moves more
-                  (λ u lt. ap (λ (h : List Held). thread_at h u) made.3 ∙ ap (λ (h : Held). thread_of h) (before_last held1 made.0 u nobody lt))
+                  (λ u lt. ap (λ (h : List Held). thread_at h u) made.is ∙ ap (λ (h : Held). thread_of h) (before_last held1 made.last u nobody lt))
                   (λ other others here. new other others));
               count = omega (arith, longer, k, grown);
               few = omega (arith, longer, k, below, at_);
-              own = record { each = λ i d lt. subst (λ (h : List Held). IsThreadOf p (get_or h i d).thread) (sym made.3) (each i d (subst (λ (h : List Held). i < length h) made.3 lt) (ltb i (length held1)) refl) };
+              own = record { each = λ i d lt. subst (λ (h : List Held). IsHeldOf p (get_or h i d)) (sym made.is) (each i d (subst (λ (h : List Held). i < length h) made.is lt) (ltb i (length held1)) refl) };
             }
           where
-            new_thread : thread_at more (length s.threads) ≡ thread_of made.0
-            new_thread = ap (λ (h : List Held). thread_at h (length s.threads)) made.3 ∙ ap (λ (h : Held). thread_of h) (last_is held1 made.0 (length s.threads) (sym number))
+            new_thread : thread_at more (length s.threads) ≡ thread_of made.last
+            new_thread = ap (λ (h : List Held). thread_at h (length s.threads)) made.is ∙ ap (λ (h : Held). thread_of h) (last_is held1 made.last (length s.threads) (sym number))
 
             new : (other : Start) → started_by taken.action ≡ Some other → Same ((bare (process_of p n)).started other.routine other.argument) (MayDo p n (thread_at more (length s.threads)))
             new other others =
                 let same : start ≡ other = same_start start other (sym starts ∙ others) in
                 subst (λ (x : Start). Same ((bare (process_of p n)).started x.routine x.argument) (MayDo p n (thread_at more (length s.threads)))) same (record {
-                  there = λ acts h. subst (λ (th : Thread). MayDo p n th acts) (sym new_thread) (made.1.back n acts h);
-                  back = λ acts h. made.1.there n acts (subst (λ (th : Thread). MayDo p n th acts) new_thread h);
+                  there = λ acts h. subst (λ (th : Thread). MayDo p n th acts) (sym new_thread) (made.begun.begins.back n acts h);
+                  back = λ acts h. made.begun.begins.there n acts (subst (λ (th : Thread). MayDo p n th acts) new_thread h);
                 })
               where
                 same_start : (x y : Start) → Some x ≡ Some y → x ≡ y
                 same_start x y e = cc
 
-            each : (i : ℕ) (d : Held) → i < length (held1 ++ made.0 ∷ []) → (b : Bool) → ltb i (length held1) ≡ b → IsThreadOf p (get_or (held1 ++ made.0 ∷ []) i d).thread
-            each i d lt true h = let in_ : i < length held1 = grind (arith, nat_tests) in subst (λ (x : Held). IsThreadOf p x.thread) (sym (before_last held1 made.0 i d in_)) (t.own.each i d in_)
-            each i d lt false h = let past : length held1 ≤ i = grind (arith, nat_tests) in subst (λ (x : Held). IsThreadOf p x.thread) (sym (end_is held1 made.0 i d past lt)) made.2
+            each : (i : ℕ) (d : Held) → i < length (held1 ++ made.last ∷ []) → (b : Bool) → ltb i (length held1) ≡ b → IsHeldOf p (get_or (held1 ++ made.last ∷ []) i d)
+            each i d lt true h = let in_ : i < length held1 = grind (arith, nat_tests) in subst (λ (x : Held). IsHeldOf p x) (sym (before_last held1 made.last i d in_)) (t.own.each i d in_)
+            each i d lt false h = let past : length held1 ≤ i = grind (arith, nat_tests) in subst (λ (x : Held). IsHeldOf p x) (sym (end_is held1 made.last i d past lt)) made.begun.own
 
         pub taken_goes : IsWithin taken.action → (more : List Held) → HasMade p taken.action held1 more → IsReplay p n (steps ++ step ∷ []) after more
         taken_goes within more made = goes_by (started_by taken.action) refl within more made

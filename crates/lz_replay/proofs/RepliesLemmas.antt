@@ -1,5 +1,5 @@
 -- From how far a replay came to what its answer says.
-use Rattle.std.proofs.Common.{◌≡◌, ◌≢◌, ℕ, zero, suc, ◌+◌, ◌<◌, ◌≤◌, Bool, true, false, List, [], ◌∷◌, ◌++◌, length, take, drop, get_or as slice_index_or, Option, Some, None, refl, sym, ◌∙◌, ap, subst, arith}
+use Rattle.std.proofs.Common.{◌≡◌, ◌≢◌, ℕ, zero, suc, ◌+◌, ◌<◌, ◌≤◌, Bool, true, false, List, [], ◌∷◌, ◌++◌, length, take, get_or as slice_index_or, Option, Some, None, refl, sym, ◌∙◌, ap, subst, arith}
 use Rattle.std.proofs.lemmas.List.{take_all, take_more}
 use Rattle.lz_base.specs.declared.word.BreakKind.{BreakKind}
 use Rattle.lz_tree.specs.ScopedTrees.{ScopedProgram}
@@ -7,7 +7,7 @@ use Rattle.lz_model.specs.declared.actions.Event.{Event}
 use Rattle.lz_model.specs.declared.schedule.Step.{Step}
 use Rattle.lz_model.specs.Actions.{Act, is_loc}
 use Rattle.lz_model.specs.Store.{State, opening}
-use Rattle.lz_model.specs.Interleavings.{Process, Course, going, stuck, broken, course, part, MayDoIn, IsRun}
+use Rattle.lz_model.specs.Interleavings.{Process, going, broken, MayDoIn}
 use Rattle.lz_model.specs.BrokenRuns.{schedule_of}
 use Rattle.lz_model.specs.Programs.{IsThreadTrace, is_cut, process_of}
 use Rattle.lz_model.specs.WithoutLoc.{left_out, without_loc, events_without_loc, IsSeen, bare}
@@ -17,7 +17,7 @@ use Rattle.lz_model.proofs.LocLemmas.{bare_run, full_run}
 use Rattle.lz_model.proofs.ScheduleLemmas.{has_choice, schedule_without_loc}
 use Rattle.lz_replay.specs.declared.answer.Replayed.TheVariants.{Broke, Holds, NotARun}
 use Rattle.lz_replay.specs.Replays.{IsFollowed, IsHeld, IsBrokenAt, Says}
-use Rattle.lz_replay.specs.Stands.{NoLoc, Same, IsOnly, NoRun, Stands, Breaks}
+use Rattle.lz_replay.specs.Stands.{NoLoc, Same, NoRun, Stands, Breaks}
 use Rattle.lz_replay.proofs.StandsLemmas.{IsIdle, no_loc}
 
 -- ---- a process without Loc

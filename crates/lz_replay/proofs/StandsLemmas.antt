@@ -10,9 +10,9 @@ use Rattle.lz_model.specs.declared.actions.Event.{Event}
 use Rattle.lz_model.specs.declared.schedule.Step.{Step}
 use Rattle.lz_model.specs.Actions.{Act, act_of, event_of, is_loc, choice_of, Start, started_by}
 use Rattle.lz_model.specs.Store.{State, Acted, went, blocked, broke, fresh, is_halted, held_by_another, goes_where, act}
-use Rattle.lz_model.specs.Interleavings.{Process, Course, going, stuck, broken, course_after, course, part, start_or, start_of, MayDo, MayDoIn, IsRun}
+use Rattle.lz_model.specs.Interleavings.{Process, going, stuck, broken, course_after, course, part, start_or, start_of, MayDo, MayDoIn, IsRun}
 use Rattle.lz_model.specs.BrokenRuns.{step_with, steps_of, schedule_of}
-use Rattle.lz_model.specs.WithoutLoc.{left_out, without_loc, events_without_loc, IsSeen, bare}
+use Rattle.lz_model.specs.WithoutLoc.{left_out, events_without_loc}
 use Rattle.lz_model.proofs.RunFrontsLemmas.{goes_is, course-append_going, part-append, start_of-append, Grows, as_many, one_more, grows, unmade, IsOpen, front_of_run}
 use Rattle.lz_model.proofs.OneRunLemmas.{made_is, made_started, is_made_here, part_first, goes_here}
 use Rattle.lz_model.proofs.ScheduleLemmas.{has_choice, no_choice}

@@ -1,5 +1,5 @@
 -- Inner: the state of a replay, and one step of it.
-use Rattle.std.specs.Prelude.{◌≡◌, ◌≢◌, ℕ, ◌<◌, ◌≤◌, ◌+◌, ◌==◌, List, [], ◌∷◌, ◌++◌, length, slice_index_or, Option, Some, None, if◌then◌else◌}
+use Rattle.std.specs.Prelude.{◌≡◌, ◌≢◌, ℕ, ◌<◌, ◌≤◌, ◌+◌, ◌==◌, List, length, Option, Some, None, if◌then◌else◌}
 use Rattle.std.specs.List.{All}
 use Rattle.lz_base.specs.declared.word.BreakKind.{BreakKind}
 use Rattle.lz_tree.specs.ScopedTrees.{ScopedProgram}
@@ -10,7 +10,6 @@ use Rattle.lz_model.specs.Programs.{process_of}
 use Rattle.lz_model.specs.WithoutLoc.{bare}
 use Rattle.lz_store.specs.Answers.{IsWithin}
 use Rattle.lz_machine.specs.Threads.{MayDo}
-use Rattle.lz_machine.specs.Starts.{IsThreadOf, IsWordAction}
 use Rattle.lz_replay.specs.declared.answer.Replayed.{Replayed}
 use Rattle.lz_replay.specs.declared.answer.Replayed.TheVariants as replayed
 use Rattle.lz_replay.specs.declared.threads.Held.{Held}
@@ -18,11 +17,11 @@ use Rattle.lz_replay.specs.declared.threads.Taken.{Taken}
 use Rattle.lz_replay.specs.declared.replaying.Stepped.{Stepped}
 use Rattle.lz_replay.specs.declared.replaying.Stepped.TheVariants.{Went, Blocked, Broke}
 use Rattle.lz_replay.specs.Stands.{NoRun, Stands, Breaks}
-use Rattle.lz_replay.specs.Taking.{room, Takes, TakesNone, thread_of, thread_at, HasMade}
+use Rattle.lz_replay.specs.Taking.{room, Takes, TakesNone, IsWord, thread_of, thread_at, IsHeldOf, HasMade}
 
 -- the threads are of the program
 pub record AreOf (p : ScopedProgram) (held : List Held) : Type 0 where
-  pub each : All (λ one. IsThreadOf p one.thread) held
+  pub each : All (IsHeldOf p) held
 
 -- A replay came through these steps to this state and these threads.
 pub record IsReplay (p : ScopedProgram) (n : ℕ) (steps : List Step) (state : State) (held : List Held) : Type 0 where
@@ -37,13 +36,13 @@ pub record IsReplay (p : ScopedProgram) (n : ℕ) (steps : List Step) (state : S
 abbrev pub HasAdvanced : ScopedProgram → ℕ → State → ℕ → Held → Option Taken → Held → Type 0
 HasAdvanced p n state choice before None after = TakesNone p n state choice (thread_of before)
 HasAdvanced p n state choice before (Some taken) after =
-    Takes p n state choice (thread_of before) (at taken.line taken.action) (thread_of after) × IsWordAction taken.action × IsThreadOf p after.thread
+    Takes p n state choice (thread_of before) (at taken.line taken.action) (thread_of after) × IsWord taken × IsHeldOf p after
 
 -- What the thread of a step takes, and the threads behind that.
 pub record TakesAt (p : ScopedProgram) (n : ℕ) (state : State) (step : Step) (before : List Held) (taken : Taken) (after : List Held) : Type 0 where
   pub made : step.thread < length before
   pub takes : Takes p n state step.choice (thread_at before step.thread) (at taken.line taken.action) (thread_at after step.thread)
-  pub word : IsWordAction taken.action
+  pub word : IsWord taken
   pub count : length after ≡ length before
   pub others : (other : ℕ) → other ≢ step.thread → thread_at after other ≡ thread_at before other
   pub own : AreOf p after

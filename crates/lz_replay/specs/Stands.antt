@@ -3,7 +3,7 @@ use Rattle.std.specs.Prelude.{◌≡◌, ◌≢◌, ℕ, ◌<◌, false, List, [
 use Rattle.lz_base.specs.declared.word.BreakKind.{BreakKind}
 use Rattle.lz_model.specs.declared.actions.Event.{Event}
 use Rattle.lz_model.specs.declared.schedule.Step.{Step}
-use Rattle.lz_model.specs.Actions.{Act, event_of, is_loc, choice_of, Start, started_by}
+use Rattle.lz_model.specs.Actions.{Act, is_loc, choice_of, Start, started_by}
 use Rattle.lz_model.specs.Store.{State, blocked, act}
 use Rattle.lz_model.specs.Interleavings.{Process, going, broken, course, part, MayDoIn, IsRun}
 use Rattle.lz_model.specs.BrokenRuns.{schedule_of}

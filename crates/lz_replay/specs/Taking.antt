@@ -9,10 +9,12 @@ use Rattle.lz_model.specs.Actions.{Act, choice_of, Start, started_by}
 use Rattle.lz_model.specs.Store.{State, blocked, act}
 use Rattle.lz_model.specs.CodeTraces.{at}
 use Rattle.lz_machine.specs.Threads as threads
-use Rattle.lz_machine.specs.Threads.{stopped, MayDo}
-use Rattle.lz_machine.specs.Answers.{Answer, reads, acts, has_ended, is_cut, read_back}
-use Rattle.lz_machine.specs.Starts.{IsThreadOf, IsStarted, IsWordAction, word_of}
-use Rattle.lz_machine.specs.declared.thread.ReadBack.TheVariants as back
+use Rattle.lz_machine.specs.Threads.{MayDo, IsOf}
+use Rattle.lz_machine.specs.Answers.{Answer, reads, acts, has_ended, is_cut, read_back, HasWord, Begins}
+use Rattle.lz_machine.specs.Held as machine
+use Rattle.lz_machine.specs.Held.{word_of}
+use Rattle.lz_machine.specs.declared.answer.ReadBack.TheVariants as back
+use Rattle.lz_machine.specs.declared.answer.Standing.TheVariants as standings
 use Rattle.lz_replay.specs.declared.threads.Held.{Held}
 use Rattle.lz_replay.specs.declared.threads.Taken.{Taken}
 use Rattle.lz_replay.specs.Lines.{some_where}
@@ -59,32 +61,45 @@ IsTaken p n state choice before None after = TakesNone p n state choice before
 IsTaken p n state choice before (Some taken) after = Takes p n state choice before (at taken.line taken.action) (read_back (word_of taken.read) after)
 
 -- an argument that is taken is a word
+abbrev pub IsWord : Taken → Type 0
+IsWord taken = HasWord (acts taken.action taken.line)
+
 abbrev pub IsWordTaken : Option Taken → Type 0
 IsWordTaken None = ⊤
-IsWordTaken (Some taken) = IsWordAction taken.action
+IsWordTaken (Some taken) = IsWord taken
 
 -- ---- threads
 
 -- the thread behind what was read
 abbrev pub thread_of : Held → threads.Thread
-thread_of held = read_back (word_of held.read) held.thread
+thread_of held = read_back (word_of held.read) (machine.thread_of held.thread)
 
 abbrev pub nobody : Held
-nobody = record { thread = record { standing = stopped; whole = false }; read = back.Nothing }
+nobody = record { thread = record { standing = standings.Stopped; whole = false }; read = back.Nothing }
 
 -- the thread of this number
 abbrev pub thread_at : List Held → ℕ → threads.Thread
 thread_at held thread = thread_of (slice_index_or held thread nobody)
 
+-- the thread is one of the program
+abbrev pub IsHeldOf : ScopedProgram → Held → Type 0
+IsHeldOf p held = IsOf p.functions (machine.thread_of held.thread)
+
+-- a thread that begins so, before its first action
+pub record HasBegun (p : ScopedProgram) (routine : Option ℕ) (value : ℕ) (held : Held) : Type 0 where
+  pub begins : Begins p routine value (thread_of held)
+  pub own : IsHeldOf p held
+
+-- one more thread is there
+pub record IsAdded (p : ScopedProgram) (routine : Option ℕ) (value : ℕ) (before after : List Held) : Type 0 where
+  pub last : Held
+  pub begun : HasBegun p routine value last
+  pub is : after ≡ before ++ last ∷ []
+
 -- what starts a thread makes it
 abbrev pub HasMadeBy : ScopedProgram → Option Start → List Held → List Held → Type 0
 HasMadeBy p None before after = after ≡ before
-HasMadeBy p (Some start) before after =
-    (held : Held) × IsStarted p (Some start.routine) start.argument (thread_of held) × IsThreadOf p held.thread × (after ≡ before ++ held ∷ [])
+HasMadeBy p (Some start) before after = IsAdded p (Some start.routine) start.argument before after
 
 abbrev pub HasMade : ScopedProgram → Action → List Held → List Held → Type 0
 HasMade p action before after = HasMadeBy p (started_by action) before after
-
--- thread 0 alone is there
-abbrev pub Begins : ScopedProgram → List Held → Type 0
-Begins p held = (first : Held) × IsStarted p None 0 (thread_of first) × IsThreadOf p first.thread × (held ≡ first ∷ [])

@@ -1,14 +1,16 @@
 ghost use Rattle.std.specs.Prelude.{◌≡◌, ◌<◌, List, [], ◌∷◌, ◌++◌, IfOk, IsTrue};
+ghost use Rattle.lz_tree.specs.Calls.{IsCallOrder};
 ghost use Rattle.lz_tree.specs.ScopedTrees.{scoped_program};
 ghost use Rattle.lz_model.specs.declared.schedule.Step as steps;
 ghost use Rattle.lz_store.specs.Answers.{IsWithin};
-ghost use Rattle.lz_machine.specs.Starts.{IsRunnable, IsThreadOf, IsWordAction};
+ghost use Rattle.lz_machine.specs.Weights.{AreFitBodies};
+ghost use Rattle.lz_replay.specs.Taking.{IsWord, IsHeldOf};
 ghost use Rattle.lz_replay.specs.Replaying as spec;
 ghost use Rattle.lz_replay.specs.Replaying.{AreOf, IsReplay, HasAdvanced, HasTaken, HasActed, HasStepped};
 ghost use Rattle.lz_replay.specs.Replays.{Says};
 
 use crate::answer::Replayed;
-use crate::threads::{Held, Taken, begin, make, take};
+use crate::threads::{Held, Taken, make, start, take};
 use lz_base::{BreakKind, Memory};
 use lz_model::{Action, Schedule, Step};
 use lz_store::{Acted, Store};
@@ -59,7 +61,7 @@ fn act(
     store: &mut Store,
     threads: &mut Vec<Held>,
 ) -> Result<Stepped, Memory>
-    requires { IsWordAction taken.now.action }
+    requires { IsWord taken.now }
     ensures { IfOk result (λ stepped. HasActed (scoped_program scoped.now) thread taken.now store.old threads.old.items stepped store.new threads.new.items) }
 {
     if !is_within(&taken.action) {
@@ -67,7 +69,7 @@ fn act(
     }
     match store.act(thread, &taken.action) {
         Acted::Went => {
-            make(alloc, scoped, &taken.action, threads)?;
+            make(alloc, scoped, taken, threads)?;
             Ok(Stepped::Went)
         }
         Acted::Blocked => Ok(Stepped::Blocked),
@@ -88,8 +90,9 @@ fn advance(
     store: &Store,
     held: &mut Held,
 ) -> Result<Option<Taken>, Memory>
-    requires program { IsRunnable (scoped_program scoped.now) order.now }
-    requires own { IsThreadOf (scoped_program scoped.now) held.old.thread }
+    requires ordered { IsCallOrder (scoped_program scoped.now).functions order.now }
+    requires fit { AreFitBodies (scoped_program scoped.now).functions }
+    requires own { IsHeldOf (scoped_program scoped.now) held.old }
     ensures { IfOk result (λ taken. HasAdvanced (scoped_program scoped.now) unwind store.now choice held.old taken held.new) }
 {
     let read = held.read;
@@ -122,7 +125,8 @@ fn next(
     store: &Store,
     threads: &mut Vec<Held>,
 ) -> Result<Option<Taken>, Memory>
-    requires program { IsRunnable (scoped_program scoped.now) order.now }
+    requires ordered { IsCallOrder (scoped_program scoped.now).functions order.now }
+    requires fit { AreFitBodies (scoped_program scoped.now).functions }
     requires own { AreOf (scoped_program scoped.now) threads.old.items }
     ensures { IfOk result (λ taken. HasTaken (scoped_program scoped.now) unwind store.now step threads.old.items taken threads.new.items) }
 {
@@ -151,7 +155,8 @@ fn go(
     store: &mut Store,
     threads: &mut Vec<Held>,
 ) -> Result<Stepped, Memory>
-    requires program { IsRunnable (scoped_program scoped.now) order.now }
+    requires ordered { IsCallOrder (scoped_program scoped.now).functions order.now }
+    requires fit { AreFitBodies (scoped_program scoped.now).functions }
     requires own { AreOf (scoped_program scoped.now) threads.old.items }
     ensures { IfOk result (λ stepped. (steps : List steps.Step) → IsReplay (scoped_program scoped.now) unwind steps store.old threads.old.items → HasStepped (scoped_program scoped.now) unwind (steps ++ step ∷ []) stepped store.new threads.new.items) }
 {
@@ -174,7 +179,8 @@ fn through(
     store: &mut Store,
     threads: &mut Vec<Held>,
 ) -> Result<Replayed, Memory>
-    requires program { IsRunnable (scoped_program scoped.now) order.now }
+    requires ordered { IsCallOrder (scoped_program scoped.now).functions order.now }
+    requires fit { AreFitBodies (scoped_program scoped.now).functions }
     requires begins { IsReplay (scoped_program scoped.now) unwind [] store.old threads.old.items }
     ensures { IfOk result (λ replayed. Says (scoped_program scoped.now) unwind steps.now replayed) }
 {
@@ -201,11 +207,13 @@ pub fn replay(
     unwind: u32,
     schedule: &Schedule,
 ) -> Result<Replayed, Memory>
-    requires { IsRunnable (scoped_program scoped.now) order.now }
+    requires ordered { IsCallOrder (scoped_program scoped.now).functions order.now }
+    requires fit { AreFitBodies (scoped_program scoped.now).functions }
     ensures { IfOk result (λ replayed. Says (scoped_program scoped.now) unwind schedule.now replayed) }
 {
     let mut store = Store::new(alloc, scoped)?;
-    let mut threads = begin(alloc, scoped)?;
+    let mut threads = Vec::new(alloc);
+    start(alloc, scoped, None, 0, &mut threads)?;
     let replayed = through(
         alloc,
         scoped,

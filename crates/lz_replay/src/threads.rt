@@ -1,12 +1,16 @@
-ghost use Rattle.std.specs.Prelude.{◌≡◌, IfOk, OnOk};
+ghost use Rattle.std.specs.Prelude.{◌≡◌, ◌<◌, length, IfOk, IfSome, OnOk, IsTrue};
+ghost use Rattle.lz_base.specs.Words.{value_bound};
+ghost use Rattle.lz_tree.specs.Calls.{IsCallOrder};
 ghost use Rattle.lz_tree.specs.ScopedTrees.{scoped_program};
 ghost use Rattle.lz_model.specs.Actions as told;
+ghost use Rattle.lz_machine.specs.Threads.{IsOf};
 ghost use Rattle.lz_machine.specs.Answers.{read_back};
-ghost use Rattle.lz_machine.specs.Starts.{IsRunnable, IsThreadOf, IsWordAction, word_of, answer_of};
+ghost use Rattle.lz_machine.specs.Weights.{AreFitBodies};
+ghost use Rattle.lz_machine.specs.Held.{word_of, answer_of, thread_of};
 ghost use Rattle.lz_replay.specs.Taking as spec;
-ghost use Rattle.lz_replay.specs.Taking.{IsTaken, IsWordTaken, HasMade, Begins};
+ghost use Rattle.lz_replay.specs.Taking.{IsTaken, IsWord, IsWordTaken, IsAdded, HasMade};
 
-use lz_base::Memory;
+use lz_base::{Memory, Value};
 use lz_machine::{Next, ReadBack, Thread};
 use lz_model::Action;
 use lz_store::Store;
@@ -24,7 +28,7 @@ pub struct Held {
 }
 
 /// The next action of a thread by the choice of a step, and what it finds if it is a read.
-#[derive(Clone, Copy, Debug, PartialEq, Eq)]
+#[derive(Clone, Copy)]
 pub struct Taken {
     pub action: Action,
     pub line: u32,
@@ -79,9 +83,7 @@ fn found(cell: u32, line: u32, choice: u64, value: u64) -> Option<Taken>
         Some(Taken {
             action: Action::Rd { cell, value },
             line,
-            read: ReadBack::Value {
-                value: value as u32,
-            },
+            read: ReadBack::Value { value },
         })
     } else {
         None
@@ -110,45 +112,75 @@ pub fn take(
     thread: &mut Thread,
     read: ReadBack,
 ) -> Result<Option<Taken>, Memory>
-    requires program { IsRunnable (scoped_program scoped.now) order.now }
-    requires own { IsThreadOf (scoped_program scoped.now) thread.old }
-    ensures takes { IfOk result (λ taken. IsTaken (scoped_program scoped.now) unwind store.now choice (read_back (word_of read) thread.old) taken thread.new) }
-    ensures own { IfOk result (λ taken. IsThreadOf (scoped_program scoped.now) thread.new) }
+    requires ordered { IsCallOrder (scoped_program scoped.now).functions order.now }
+    requires fit { AreFitBodies (scoped_program scoped.now).functions }
+    requires own { IsOf (scoped_program scoped.now).functions (thread_of thread.old) }
+    ensures takes { IfOk result (λ taken. IsTaken (scoped_program scoped.now) unwind store.now choice (read_back (word_of read) (thread_of thread.old)) taken (thread_of thread.new)) }
+    ensures own { IfOk result (λ taken. IsOf (scoped_program scoped.now).functions (thread_of thread.new)) }
     ensures words { IfOk result (λ taken. IsWordTaken taken) }
 {
     let next = thread.next(alloc, scoped, order, unwind, choice, read)?;
     Ok(taken_of(next, choice, store))
 }
 
-/// Makes the thread that an action creates, if it creates one.
-pub fn make(
+/// Whether the program has a function of this number.
+fn has_function(scoped: &Scoped, function: u32) -> bool
+    ensures { IsTrue result → function < length (scoped_program scoped.now).functions }
+{
+    (function as usize) < scoped.functions.items().len()
+}
+
+/// Whether the program has its `main` and this routine, if one is asked for.
+fn has_routine(scoped: &Scoped, routine: Option<u32>) -> bool
+    ensures main { IsTrue result → (scoped_program scoped.now).main < length (scoped_program scoped.now).functions }
+    ensures routine { IsTrue result → IfSome routine (λ f. f < length (scoped_program scoped.now).functions) }
+{
+    match routine {
+        Some(function) => has_function(scoped, scoped.main) && has_function(scoped, function),
+        None => has_function(scoped, scoped.main),
+    }
+}
+
+/// Adds `main` before its first action, or a routine with its argument. A program that lacks the function, which no
+/// checked one does, comes to want of memory.
+pub fn start(
     alloc: Global,
     scoped: &Scoped,
-    action: &Action,
+    routine: Option<u32>,
+    value: Value,
     threads: &mut Vec<Held>,
 ) -> Result<(), Memory>
-    requires { IsWordAction action.now }
-    ensures { OnOk result (HasMade (scoped_program scoped.now) action.now threads.old.items threads.new.items) }
+    requires { value < value_bound }
+    ensures { OnOk result (IsAdded (scoped_program scoped.now) routine value threads.old.items threads.new.items) }
 {
-    if let Action::Create { start, value, .. } = *action {
-        let thread = Thread::start(alloc, scoped, Some(start), value as u32)?;
-        threads.push(Held {
-            thread,
-            read: ReadBack::Nothing,
-        })?;
+    if !has_routine(scoped, routine) {
+        return Err(Memory);
     }
+    let thread = Thread::start(alloc, scoped, routine, value)?;
+    let read = ReadBack::Nothing;
+    threads.push(Held { thread, read })?;
     Ok(())
 }
 
-/// The threads of a process in the beginning: thread 0.
-pub fn begin(alloc: Global, scoped: &Scoped) -> Result<Vec<Held>, Memory>
-    ensures { IfOk result (λ threads. Begins (scoped_program scoped.now) threads.items) }
+/// Makes the thread that a taken action creates, if it creates one.
+pub fn make(
+    alloc: Global,
+    scoped: &Scoped,
+    taken: &Taken,
+    threads: &mut Vec<Held>,
+) -> Result<(), Memory>
+    requires { IsWord taken.now }
+    ensures { OnOk result (HasMade (scoped_program scoped.now) taken.now.action threads.old.items threads.new.items) }
 {
-    let thread = Thread::start(alloc, scoped, None, 0)?;
-    let mut threads = Vec::new(alloc);
-    threads.push(Held {
-        thread,
-        read: ReadBack::Nothing,
-    })?;
-    Ok(threads)
+    match taken.action {
+        Action::Create {
+            start: routine,
+            value,
+            ..
+        } => {
+            start(alloc, scoped, Some(routine), value, threads)?;
+            Ok(())
+        }
+        _ => Ok(()),
+    }
 }
