@@ -1,4 +1,4 @@
-ghost use Rattle.std.specs.Prelude.{◌≡◌, ◌<◌, IfOk, IfSome, length};
+ghost use Rattle.std.specs.Prelude.{◌≡◌, ◌<◌, IfOk, length};
 ghost use Rattle.lz_tree.specs.ScopedTrees.{scoped_program};
 ghost use Rattle.lz_machine.specs.Threads.{going, AreOf, IsOf, StandsOf, first_thread};
 ghost use Rattle.lz_machine.specs.Answers as words;
@@ -69,6 +69,17 @@ fn first(alloc: Global, function: u32, arguments: Vec<u32>, whole: bool) -> Part
     }
 }
 
+/// Tests that a number is one of a function of the program.
+fn find(program: &Scoped, function: u32) -> Result<(), Memory>
+    ensures { IfOk result (λ _. function < length (scoped_program program.now).functions) }
+{
+    if (function as usize) < program.functions.items().len() {
+        Ok(())
+    } else {
+        Err(Memory)
+    }
+}
+
 impl Parts {
     /// `main` of a program before its first action, or a routine with its argument.
     pub fn start(
@@ -77,15 +88,17 @@ impl Parts {
         start: Option<u32>,
         value: u32,
     ) -> Result<Parts, Memory>
-        requires main { (scoped_program program.now).main < length (scoped_program program.now).functions }
-        requires routine { IfSome start (λ f. f < length (scoped_program program.now).functions) }
         ensures starts { IfOk result (λ t. IsStarted (scoped_program program.now) start value (thread_of t)) }
         ensures own { IfOk result (λ t. IsOf (scoped_program program.now).functions (thread_of t)) }
     {
         let mut arguments = Vec::new(alloc);
         match start {
-            None => Ok(first(alloc, program.main, arguments, true)),
+            None => {
+                find(program, program.main)?;
+                Ok(first(alloc, program.main, arguments, true))
+            }
             Some(function) => {
+                find(program, function)?;
                 arguments.push(value)?;
                 Ok(first(alloc, function, arguments, false))
             }

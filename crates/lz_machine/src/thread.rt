@@ -1,4 +1,4 @@
-ghost use Rattle.std.specs.Prelude.{◌<◌, IfOk, IfSome, length};
+ghost use Rattle.std.specs.Prelude.{IfOk};
 ghost use Rattle.lz_tree.specs.ScopedTrees.{scoped_program};
 ghost use Rattle.lz_machine.specs.Answers.{Answers, read_back};
 ghost use Rattle.lz_machine.specs.Starts.{IsRunnable, IsThreadOf, IsStarted, IsWordAnswer, answer_of, word_of};
@@ -31,15 +31,14 @@ impl Model for Thread {
 }
 
 impl Thread {
-    /// `main` of a program before its first action, or a start routine with its argument.
+    /// `main` of a program before its first action, or a start routine with its argument. A number that no function of the
+    /// program has is answered with want of memory; no checked program comes to one.
     pub fn start(
         alloc: Global,
         program: &Scoped,
         start: Option<u32>,
         value: u32,
     ) -> Result<Thread, Memory>
-        requires main { (scoped_program program.now).main < length (scoped_program program.now).functions }
-        requires routine { IfSome start (λ f. f < length (scoped_program program.now).functions) }
         ensures starts { IfOk result (λ t. IsStarted (scoped_program program.now) start value t) }
         ensures own { IfOk result (λ t. IsThreadOf (scoped_program program.now) t) }
     {

@@ -5,8 +5,8 @@ use Rattle.lz_machine.specs.Held.{thread_of}
 use Rattle.lz_machine.proofs.ThreadLemmas.{main_begins, routine_begins}
 use Rattle.lz_machine.proofs.parts.Parts.start.Goals as goal
 
-pub returns-in-None-clause-starts : goal.returns-in-None-clause-starts
-returns-in-None-clause-starts c = main_begins (scoped_program c.args.program.now) c.args.value _ (thread_of c.first.result) c.args.start c.in-None.is c.first.ensures c.new-arguments.ensures.items
+pub returns-in_ok-find-in-None-clause-starts : goal.returns-in_ok-find-in-None-clause-starts
+returns-in_ok-find-in-None-clause-starts c = main_begins (scoped_program c.args.program.now) c.args.value _ (thread_of c.first.result) c.args.start c.in-None.is c.first.ensures c.new-arguments.ensures.items
 
 pub returns-in_ok-push-in-Some-clause-starts : goal.returns-in_ok-push-in-Some-clause-starts
 returns-in_ok-push-in-Some-clause-starts c =
