@@ -81,10 +81,9 @@ fn all_fit(items: &[ScopedExpr]) -> bool
     fit
 }
 
-/// Whether the constants of an expression are words, and the elements of its objects have numbers below 2^32. It takes
-/// time in the expression's size.
+/// Whether the constants of an expression are words, and the elements of its objects have numbers below 2^32.
 #[cycle(expression_fits)]
-pub fn expression_fits(e: &ScopedExpr) -> bool
+fn expression_fits(e: &ScopedExpr) -> bool
     ensures { result ≡ spec.fits (scoped_expression e.now) }
 {
     match e {
@@ -181,10 +180,9 @@ fn parts_fit(items: &[ScopedStmt]) -> bool
     fit
 }
 
-/// Whether the constants of a statement are words, and the elements of its objects have numbers below 2^32. It takes
-/// time in the statement's size.
+/// Whether the constants of a statement are words, and the elements of its objects have numbers below 2^32.
 #[cycle(statement_fits)]
-pub fn statement_fits(s: &ScopedStmt) -> bool
+fn statement_fits(s: &ScopedStmt) -> bool
     ensures { result ≡ spec.statement_fits (scoped_statement s.now) }
 {
     match s {
@@ -211,6 +209,15 @@ pub fn statement_fits(s: &ScopedStmt) -> bool
         ScopedStmt::Return { value, .. } => may_fit(value),
         ScopedStmt::Label { of, .. } => statement_fits(of),
     }
+}
+
+/// Whether a thread can run a body: its constants are words, and the elements of its objects have numbers below 2^32. It
+/// takes time in the body's size.
+pub fn body_fits(s: &ScopedStmt) -> bool
+    ensures fits { result ≡ true → IsFitStatement (scoped_statement s.now) }
+    ensures only { IsFitStatement (scoped_statement s.now) → result ≡ true }
+{
+    statement_fits(s)
 }
 
 /// Whether the bodies of these functions fit.

@@ -3,4 +3,4 @@
 
 mod fits;
 
-pub use fits::{expression_fits, program_fits, statement_fits};
+pub use fits::{body_fits, program_fits};
