@@ -1,5 +1,7 @@
 -- A turn of a thread, from what the body of its innermost call came to.
 use Rattle.std.proofs.Common.{◌≡◌, ℕ, zero, suc, ◌<◌, true, false, List, [], ◌∷◌, length, Some, None, slice_get, refl, sym, ◌∙◌, ap, subst, arith}
+use Rattle.std.proofs.lemmas.Option.{get_or_from_slice_get}
+use Rattle.std.proofs.lemmas.List.Elements.{All-get_or}
 use Rattle.lz_tree.specs.Calls.{IsCallOrder}
 use Rattle.lz_tree.specs.ScopedTrees.{ScopedStatement, ScopedDefinition, ScopedProgram}
 use Rattle.lz_model.specs.CodeTraces.{entered, passed}
@@ -10,7 +12,8 @@ use Rattle.lz_stations.specs.StatementFits.{IsFitStatement}
 use Rattle.lz_stations.specs.Walks.{StatementComes}
 use Rattle.lz_machine.specs.Threads.{Frame, Running, outside, AreOf}
 use Rattle.lz_machine.specs.Turns.{IsPlainReached, Turned, again, Turns, running_with, turned_by, HasCome}
-use Rattle.lz_machine.specs.Weights.{weight, IsLighter, StaysOf, AreFitBodies, Advances, Arrives}
+use Rattle.lz_machine.specs.Weights.{weight, IsLighter, StaysOf, Advances, Arrives}
+use Rattle.lz_machine.specs.Starts.{AreFitBodies}
 use Rattle.lz_machine.specs.declared.running.Running as held_running
 use Rattle.lz_machine.specs.declared.turn.Turned as held
 use Rattle.lz_machine.specs.declared.turn.Turned.TheVariants as code_turned
@@ -94,12 +97,13 @@ advances p order n o frame callers of d is values handles more given made reache
 
 -- a body that can be run
 pub body_fits : (p : ScopedProgram) (f : ℕ) (d : ScopedDefinition) → Some d ≡ slice_get p.functions f → AreFitBodies p.functions → IsFitStatement d.body
-body_fits p f d e all = by p.functions f e all
+body_fits p f d e all =
+    subst (λ (x : ScopedDefinition). IsFitStatement x.body) (get_or_from_slice_get p.functions f d d (sym e)) (All-get_or (λ (x : ScopedDefinition). IsFitStatement x.body) p.functions f d (inside p.functions f e) all)
   where
-    by : (ds : List ScopedDefinition) (f : ℕ) → Some d ≡ slice_get ds f → AreFitBodies ds → IsFitStatement d.body
-    by [] f e all = absurd cc
-    by (x ∷ rest) zero e all = let same : d ≡ x = cc in subst (λ (y : ScopedDefinition). IsFitStatement y.body) (sym same) all.0
-    by (x ∷ rest) (suc f) e all = by rest f e all.1
+    inside : (ds : List ScopedDefinition) (f : ℕ) → Some d ≡ slice_get ds f → f < length ds
+    inside [] f e = absurd cc
+    inside (x ∷ rest) zero e = omega arith
+    inside (x ∷ rest) (suc f) e = let h = inside rest f e in omega (arith, h)
 
 -- a function whose number is one of the program's is found
 pub is_found : (p : ScopedProgram) (f : ℕ) {A : Type 0} → None ≡ slice_get p.functions f → f < length p.functions → A

@@ -13,7 +13,7 @@ use Rattle.lz_model.specs.CodeTraces.{Locals, at, IsWord, IsAny, IsValueOf}
 use Rattle.lz_model.specs.Programs.{numbered_after}
 use Rattle.lz_turns.proofs.SeenLemmas.{alike_same, alike_alike}
 use Rattle.lz_stations.specs.Stations.{acts, reads, asks, signals, creates, calls_on}
-use Rattle.lz_stations.specs.Nears.{IsPlain}
+use Rattle.lz_turns.specs.Nears.{IsPlain}
 use Rattle.lz_machine.specs.Threads.{Frame, frames_trace, Running, Standing, going, failed, stopped, ended, outside, Acts, Comes, MayGo}
 use Rattle.lz_machine.specs.Answers as answers
 use Rattle.lz_machine.specs.Answers.{Answer, has_ended, is_cut, woken_by, HasChosen, IsChosen, StandsFor, IsAsked, IsBehind, IsGoing, StandsBehind, CutBehind, Causes, Answers}

@@ -3,12 +3,9 @@ use Rattle.std.specs.Prelude.{◌≡◌, ◌⊎◌, ℕ, zero, ◌<◌, ◌-◌,
 use Rattle.lz_base.specs.Words.{value_bound}
 use Rattle.lz_tree.specs.ScopedTrees.{ScopedProgram}
 use Rattle.lz_model.specs.declared.actions.Action.{Action}
-use Rattle.lz_model.specs.declared.actions.Action.TheVariants.{Input, Check, Assume, Rd, Signal, Create, End}
+use Rattle.lz_model.specs.declared.actions.Action.TheVariants.{Input, Check, Assume, Rd, Signal, End}
 use Rattle.lz_model.specs.Actions.{Act}
 use Rattle.lz_model.specs.CodeTraces.{at}
-use Rattle.lz_model.specs.Interleavings.{Process}
-use Rattle.lz_model.specs.Programs.{process_of}
-use Rattle.lz_model.specs.WithoutLoc.{bare}
 use Rattle.lz_machine.specs.Threads.{Running, Standing, going, failed, stopped, ended, Thread, MayDo}
 
 -- What a thread answers: a read of a cell, whose word is to be read back; another action that is not Loc; that it gave
@@ -110,21 +107,3 @@ pub record Answers (p : ScopedProgram) (n choice : ℕ) (before : Thread) (answe
   pub chosen : IsChosen choice answer
   pub causes : Causes before.standing answer after.standing
   pub whole : after.whole ≡ before.whole
-
--- the argument with which a thread is created is a word
-abbrev pub HasWord : Answer → Type 0
-HasWord (acts (Create thread routine value) line) = value < value_bound
-HasWord answer = ⊤
-
--- ---- how a thread begins
-
--- what `main` of a program may do, or a routine of it with this argument
-abbrev pub begins_with : Process → Option ℕ → ℕ → List Act → Type 0
-begins_with process None value = process.main
-begins_with process (Some routine) value = process.started routine value
-
--- A thread before its first action: it may do what the threads of the program may that begin so, whatever the turns of
--- loops.
-pub record Begins (p : ScopedProgram) (routine : Option ℕ) (value : ℕ) (thread : Thread) : Type 0 where
-  pub there : (n : ℕ) (list : List Act) → MayDo p n thread list → begins_with (bare (process_of p n)) routine value list
-  pub back : (n : ℕ) (list : List Act) → begins_with (bare (process_of p n)) routine value list → MayDo p n thread list

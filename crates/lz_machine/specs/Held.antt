@@ -1,6 +1,5 @@
 -- Inner: a thread as code holds it, and what a turn of it leads to.
-use Rattle.std.specs.Prelude.{ℕ, Bool, true, false, List, ◌∷◌, map, reverse, Option, Some, None, ◌%◌}
-use Rattle.lz_base.specs.Words.{value_bound}
+use Rattle.std.specs.Prelude.{Bool, true, false, List, ◌∷◌, map, reverse}
 use Rattle.lz_stations.specs.WalksHeld.{footing_of, pause_of}
 use Rattle.lz_machine.specs.declared.running.Caller.{Caller}
 use Rattle.lz_machine.specs.declared.running.Running as held_running
@@ -8,13 +7,8 @@ use Rattle.lz_machine.specs.declared.turn.Turned as held_turned
 use Rattle.lz_machine.specs.declared.turn.Turned.TheVariants as code_turned
 use Rattle.lz_machine.specs.declared.answer.Standing as held_standing
 use Rattle.lz_machine.specs.declared.answer.Standing.TheVariants as code_standing
-use Rattle.lz_machine.specs.declared.answer.Next as held_next
-use Rattle.lz_machine.specs.declared.answer.Next.TheVariants as code_next
-use Rattle.lz_machine.specs.declared.answer.ReadBack as held_back
-use Rattle.lz_machine.specs.declared.answer.ReadBack.TheVariants as code_back
-use Rattle.lz_machine.specs.declared.thread.Thread as held_thread
+use Rattle.lz_machine.specs.declared.parts.Parts as held_parts
 use Rattle.lz_machine.specs.Threads.{Frame, Running, Standing, going, failed, stopped, ended, Thread}
-use Rattle.lz_machine.specs.Answers.{Answer, reads, acts, has_ended, is_cut}
 use Rattle.lz_machine.specs.Turns.{Turned, again, pausing, failing, refusing, leaving, stopping, ending}
 
 abbrev pub caller_of : Caller → Frame
@@ -59,20 +53,9 @@ standing_of code_standing.Failed = failed
 standing_of code_standing.Stopped = stopped
 standing_of code_standing.Ended = ended
 
-abbrev pub thread_of : held_thread.Thread → Thread
+abbrev pub thread_of : held_parts.Parts → Thread
 thread_of thread = record { standing = standing_of thread.standing; whole = thread.whole }
 
 -- a thread that stands so
 abbrev pub thread_with : Standing → Bool → Thread
 thread_with standing whole = record { standing = standing; whole = whole }
-
-abbrev pub answer_of : held_next.Next → Answer
-answer_of (code_next.Read cell line) = reads cell line
-answer_of (code_next.Act action line) = acts action line
-answer_of code_next.Ended = has_ended
-answer_of code_next.Cut = is_cut
-
--- the word that is read back
-abbrev pub word_of : held_back.ReadBack → Option ℕ
-word_of code_back.Nothing = None
-word_of (code_back.Value value) = Some (value % value_bound)

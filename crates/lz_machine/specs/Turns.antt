@@ -10,7 +10,7 @@ use Rattle.lz_model.specs.CodeTraces.{Locals, no_calls, does, passed}
 use Rattle.lz_model.specs.Programs.{function_at, value_of}
 use Rattle.lz_turns.specs.Seen.{Alike}
 use Rattle.lz_stations.specs.Stations.{at_station, start, Pause, acts, reads, asks, signals, creates, calls_on, Reached, leads, pauses, fails, refuses, quits, stops}
-use Rattle.lz_stations.specs.Nears.{IsPlain}
+use Rattle.lz_turns.specs.Nears.{IsPlain}
 use Rattle.lz_stations.specs.StationTraces.{paused}
 use Rattle.lz_machine.specs.Threads.{Frame, frames_trace, Running, outside, Standing, going, failed, stopped, ended}
 use Rattle.lz_machine.specs.Answers as answers

@@ -2,7 +2,6 @@
 use Rattle.std.specs.Prelude.{ℕ, zero, suc, ◌+◌, ◌*◌, ◌<◌, ◌==◌, max, List, [], ◌∷◌, if◌then◌else◌, ⊤}
 use Rattle.lz_tree.specs.ScopedTrees.{ScopedDefinition, ScopedProgram}
 use Rattle.lz_model.specs.Programs.{function_at}
-use Rattle.lz_stations.specs.StatementFits.{IsFitStatement}
 use Rattle.lz_stations.specs.StatementNears.{statement_most, statement_left}
 use Rattle.lz_machine.specs.Threads.{Frame, Running, AreOf}
 use Rattle.lz_machine.specs.Turns.{Turned, again, pausing, failing, refusing, leaving, stopping, ending, Turns, HasCome}
@@ -50,11 +49,6 @@ StaysOf functions (refusing line) = ⊤
 StaysOf functions leaving = ⊤
 StaysOf functions stopping = ⊤
 StaysOf functions (ending value handles) = ⊤
-
--- each body can be run
-abbrev pub AreFitBodies : List ScopedDefinition → Type 0
-AreFitBodies [] = ⊤
-AreFitBodies (d ∷ rest) = IsFitStatement d.body × AreFitBodies rest
 
 -- ---- what a turn, and turns up to the next action, keep
 

@@ -4,7 +4,8 @@ ghost use Rattle.lz_stations.specs.Stations as stations;
 ghost use Rattle.lz_stations.specs.WalksHeld.{pause_of};
 ghost use Rattle.lz_machine.specs.Answers as words;
 ghost use Rattle.lz_machine.specs.Turns as spec;
-ghost use Rattle.lz_machine.specs.Held.{running_of, turned_of, standing_of, answer_of, word_of};
+ghost use Rattle.lz_machine.specs.Held.{running_of, turned_of, standing_of};
+ghost use Rattle.lz_machine.specs.Starts.{answer_of, word_of, IsWordAnswer};
 
 use crate::running::Running;
 use crate::turn::Turned;
@@ -13,7 +14,7 @@ use lz_model::Action;
 use lz_stations::Pause;
 
 /// What a thread answers on its next action that is not local.
-#[derive(Drop)]
+#[derive(Clone, Copy, Debug, PartialEq, Eq)]
 pub enum Next {
     /// It reads a cell, whose word is to be read back.
     Read { cell: u32, line: u32 },
@@ -25,11 +26,10 @@ pub enum Next {
 }
 
 /// The word that a read found, or nothing behind another answer.
-#[derive(Clone, Copy)]
+#[derive(Clone, Copy, Debug, PartialEq, Eq)]
 pub enum ReadBack {
     Nothing,
-    /// A word, or any number of which this is one modulo 2^32.
-    Value { value: Value },
+    Value { value: u32 },
 }
 
 /// Whether a thread goes on.
@@ -78,7 +78,7 @@ pub fn give(running: &mut Running, read: ReadBack)
 {
     match read {
         ReadBack::Nothing => {}
-        ReadBack::Value { value } => running.given = word(value),
+        ReadBack::Value { value } => running.given = value,
     }
 }
 
@@ -105,7 +105,7 @@ fn acted(action: Action, line: u32, running: Running, given: u32) -> Answered
 fn created(start: u32, value: u32, line: u32, running: Running) -> Result<Answered, Memory>
     ensures next { IfOk result (λ a. answer_of a.next ≡ spec.answer_to 0 true (spec.pausing (stations.creates start value line) (running_of running))) }
     ensures standing { IfOk result (λ a. standing_of a.standing ≡ spec.standing_behind 0 (spec.pausing (stations.creates start value line) (running_of running))) }
-    ensures word { IfOk result (λ a. words.HasWord (answer_of a.next)) }
+    ensures word { IfOk result (λ a. IsWordAnswer (answer_of a.next)) }
 {
     let mut running = running;
     let thread = running.made;
@@ -125,7 +125,7 @@ fn created(start: u32, value: u32, line: u32, running: Running) -> Result<Answer
 fn paused_answer(choice: u64, pause: Pause, running: Running) -> Result<Answered, Memory>
     ensures next { IfOk result (λ a. answer_of a.next ≡ spec.answer_to choice true (spec.pausing (pause_of pause) (running_of running))) }
     ensures standing { IfOk result (λ a. standing_of a.standing ≡ spec.standing_behind choice (spec.pausing (pause_of pause) (running_of running))) }
-    ensures word { IfOk result (λ a. spec.IsPlainPause (pause_of pause) → words.HasWord (answer_of a.next)) }
+    ensures word { IfOk result (λ a. spec.IsPlainPause (pause_of pause) → IsWordAnswer (answer_of a.next)) }
 {
     match pause {
         Pause::Acts { action, line } => Ok(acted(action, line, running, 0)),
@@ -170,7 +170,7 @@ fn last(action: Action, line: u32, standing: Standing) -> Answered
 pub fn tell(choice: u64, whole: bool, turned: Turned, running: Running) -> Result<Answered, Memory>
     ensures next { IfOk result (λ a. answer_of a.next ≡ spec.answer_to choice whole (turned_of turned running)) }
     ensures standing { IfOk result (λ a. standing_of a.standing ≡ spec.standing_behind choice (turned_of turned running)) }
-    ensures word { IfOk result (λ a. (made : ℕ) → spec.IsPausing (turned_of turned running) made → words.HasWord (answer_of a.next)) }
+    ensures word { IfOk result (λ a. (made : ℕ) → spec.IsPausing (turned_of turned running) made → IsWordAnswer (answer_of a.next)) }
 {
     match turned {
         Turned::Again => Ok(Answered {

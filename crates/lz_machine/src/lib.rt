@@ -2,6 +2,7 @@
 #![tactic(auto)]
 
 mod answer;
+mod parts;
 mod running;
 mod thread;
 mod turn;

@@ -1,6 +1,5 @@
 ghost use Rattle.std.specs.Prelude.{◌≡◌, IfOk, option_map, slice_get, map, ◌∷◌};
 ghost use Rattle.lz_base.specs.Words as words;
-ghost use Rattle.lz_tree.specs.Calls.{IsCallOrder};
 ghost use Rattle.lz_tree.specs.ScopedTrees.{scoped_program, scoped_definition};
 ghost use Rattle.lz_model.specs.Programs as model;
 ghost use Rattle.lz_model.specs.CodeTraces as traces;
@@ -8,7 +7,8 @@ ghost use Rattle.lz_stations.specs.StationsHeld.{flow_of};
 ghost use Rattle.lz_stations.specs.WalksHeld.{pause_of, reached_of};
 ghost use Rattle.lz_machine.specs.Turns as spec;
 ghost use Rattle.lz_machine.specs.Threads.{AreOf};
-ghost use Rattle.lz_machine.specs.Weights.{AreFitBodies, Advances, Arrives};
+ghost use Rattle.lz_machine.specs.Weights.{Advances, Arrives};
+ghost use Rattle.lz_machine.specs.Starts.{IsRunnable};
 ghost use Rattle.lz_machine.specs.Held.{caller_of, callers_of, running_of, turned_of, is_again};
 
 use crate::running::{Caller, Running};
@@ -211,8 +211,7 @@ fn turn(
     bound: u32,
     running: &mut Running,
 ) -> Result<Turned, Memory>
-    requires ordered { IsCallOrder (scoped_program program.now).functions order.now }
-    requires fit { AreFitBodies (scoped_program program.now).functions }
+    requires program { IsRunnable (scoped_program program.now) order.now }
     requires of { AreOf (scoped_program program.now).functions (running_of running.old).frames }
     ensures { IfOk result (λ t. Advances (scoped_program program.now) order.now bound (running_of running.old) (turned_of t running.new)) }
 {
@@ -265,8 +264,7 @@ pub fn run(
     bound: u32,
     running: &mut Running,
 ) -> Result<Turned, Memory>
-    requires ordered { IsCallOrder (scoped_program program.now).functions order.now }
-    requires fit { AreFitBodies (scoped_program program.now).functions }
+    requires program { IsRunnable (scoped_program program.now) order.now }
     requires of { AreOf (scoped_program program.now).functions (running_of running.old).frames }
     ensures { IfOk result (λ t. Arrives (scoped_program program.now) bound (running_of running.old) (turned_of t running.new)) }
 {

@@ -19,11 +19,16 @@ statement_there [] k h = absurd (omega (arith, h))
 statement_there (y ∷ ys) zero h = (scoped_statement y, refl)
 statement_there (y ∷ ys) (suc k) h = statement_there ys k (omega (arith, h))
 
-statement_out : (xs : List ScopedStmt) (k : ℕ) → length xs ≤ k → statement_at (scoped_statements_of (map scoped_statement xs)) k ≡ None
+pub statement_out : (xs : List ScopedStmt) (k : ℕ) → length xs ≤ k → statement_at (scoped_statements_of (map scoped_statement xs)) k ≡ None
 statement_out [] zero h = refl
 statement_out [] (suc k) h = refl
 statement_out (y ∷ ys) zero h = absurd (omega (arith, h))
 statement_out (y ∷ ys) (suc k) h = statement_out ys k (omega (arith, h))
+
+pub statement_in : (xs : List ScopedStmt) (k : ℕ) (x : ScopedStmt) → k < length xs → x ≡ get_or xs k x → statement_at (scoped_statements_of (map scoped_statement xs)) k ≡ Some (scoped_statement x)
+statement_in [] k x h is = absurd (omega (arith, h))
+statement_in (y ∷ ys) zero x h is = ap (λ (z : ScopedStmt). Some (scoped_statement z)) (sym is)
+statement_in (y ∷ ys) (suc k) x h is = statement_in ys k x (omega (arith, h)) is
 
 -- a declarator
 pub declarator_in : (xs : List ScopedDeclarator) (k : ℕ) (x : ScopedDeclarator) → k < length xs → x ≡ get_or xs k x → declarator_at (map scoped_declarator xs) k ≡ Some (scoped_declarator x)

@@ -1,5 +1,10 @@
+pub mod StatementFits
+pub mod StatementNears
+pub mod StatementSizes
 pub mod StationMoves
 pub mod StationRanks
 pub mod StationTraces
 pub mod Stations
 pub mod StationsHeld
+pub mod Walks
+pub mod WalksHeld

@@ -3,7 +3,7 @@ use Rattle.std.specs.Prelude.{ℕ, suc, ◌+◌, ◌*◌, ◌-◌, ◌<◌, List
 use Rattle.lz_tree.specs.ScopedTrees.{ScopedInitDeclarator, ScopedStatement, ScopedStatements, nil, cons}
 use Rattle.lz_model.specs.CodeTraces.{len_of}
 use Rattle.lz_stations.specs.Stations as at
-use Rattle.lz_stations.specs.Stations.{Station, start, led, evaluated, listing, declaring, filling, arbitrary, filled, initialized, tested, taken, other, opened, turning, turned, bodied, changed, doing, returned, labelled, StationMove, enters_value, enters_part, moves_on, reaches}
+use Rattle.lz_stations.specs.Stations.{Station, start, led, evaluated, listing, declaring, filling, arbitrary, filled, initialized, tested, taken, other, opened, turning, turned, bodied, changed, doing, returned, labelled, Pause, acts, reads, asks, signals, creates, calls_on, Reached, leads, pauses, fails, refuses, quits, stops, StationMove, enters_value, enters_part, moves_on, reaches}
 use Rattle.lz_stations.specs.StationMoves.{parts_of, declared_by, declarator_at}
 use Rattle.lz_stations.specs.StationTraces.{declarators_from}
 
@@ -44,9 +44,26 @@ station_rank n s (doing left) = 8 * left + 2
 station_rank n s returned = 0
 station_rank n s labelled = 0
 
--- a move leads below this rank
+-- no pause but for an input
+abbrev pub AsksAlone : Pause → Type 0
+AsksAlone (acts action line) = ⊥
+AsksAlone (reads cell line) = ⊥
+AsksAlone (asks line kind) = ⊤
+AsksAlone (signals cond line) = ⊥
+AsksAlone (creates routine value line) = ⊥
+AsksAlone (calls_on function kinds values) = ⊥
+
+abbrev pub IsStill : Reached → Type 0
+IsStill (leads flow) = ⊤
+IsStill (pauses pause footing) = AsksAlone pause
+IsStill (fails kind line) = ⊤
+IsStill (refuses line) = ⊤
+IsStill quits = ⊤
+IsStill stops = ⊤
+
+-- a move leads below this rank, or comes so far without a pause but for an input
 abbrev pub FallsTo : ℕ → ScopedStatement → ℕ → StationMove → Type 0
 FallsTo n s r (enters_value station) = station_rank n s station < r
 FallsTo n s r (enters_part station) = station_rank n s station < r
 FallsTo n s r (moves_on station) = station_rank n s station < r
-FallsTo n s r (reaches reached) = ⊤
+FallsTo n s r (reaches reached) = IsStill reached

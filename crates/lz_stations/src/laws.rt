@@ -16,7 +16,7 @@ pub fn a_turn_of_a_statement()
 {}
 
 /// Each step brings a statement nearer to its last station, where an expression or a statement in it is one step: so the
-/// steps of a statement end, where its loop has at most `bound` turns.
+/// steps of a statement end, where its loop has at most `bound` turns. By itself a statement pauses for inputs alone.
 pub fn steps_end()
     ensures { (bound : ℕ) (s : ScopedStatement) (station : Station) (v : ℕ) (flow : Flow) → FallsTo bound s (station_rank bound s station) (station_move bound s station v flow) }
 {}

@@ -89,7 +89,7 @@ fn follow_move(flow: Flow, next: Station) -> StationMove
 }
 
 /// The parts of a block.
-fn parts(s: &ScopedStmt) -> &[ScopedStmt]
+pub fn parts(s: &ScopedStmt) -> &[ScopedStmt]
     ensures { scoped_statements_of (map scoped_statement result.now) ≡ spec.parts_of (scoped_statement s.now) }
 {
     match s {

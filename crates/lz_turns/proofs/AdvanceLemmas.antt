@@ -1,5 +1,6 @@
 -- How an expression comes as far as its part, and by turns of its own.
-use Rattle.std.proofs.Common.{◌≡◌, ◌<◌, ℕ, List, Option, Some, None, inr, refl, sym, ◌∙◌, ap, subst}
+use Rattle.std.proofs.Common.{◌≡◌, ◌<◌, ◌≤◌, ◌*◌, ℕ, suc, arith, List, Option, Some, None, inr, refl, sym, ◌∙◌, ap, subst}
+use Rattle.std.proofs.lemmas.Nat.{mul-le}
 use Rattle.lz_tree.specs.ScopedTrees.{ScopedExpression, ScopedProgram}
 use Rattle.lz_model.specs.Actions.{Act}
 use Rattle.lz_model.specs.WithoutLoc.{without_loc}
@@ -10,12 +11,15 @@ use Rattle.lz_model.proofs.FrontsLemmas.{FrontCalls, fronts_updates, fronts_choo
 use Rattle.lz_turns.specs.Stages.{Stage, start, Point, at_stage, within, Came, settles, acts, reads, asks, signals, creates, calls_on, fails, refuses, quits, stops, Move, enters, goes, comes, inside, value_if_done}
 use Rattle.lz_turns.specs.Moves.{slot_of, part_of, arguments_of, turn_of, left_by}
 use Rattle.lz_turns.specs.Seen.{Seen, Alike}
-use Rattle.lz_turns.specs.Resumed.{stage_trace, with_part, resumed, behind, moved, Comes, PartComes, Turned, again, stopped, behind_turn, Turns}
+use Rattle.lz_turns.specs.Resumed.{stage_trace, with_part, resumed, behind, moved, Comes, PartComes, Turned, again, stopped, behind_turn, TurnNears, Turns}
 use Rattle.lz_turns.proofs.SeenLemmas.{alike_same, alike_back, alike_alike, alike_then, alike_behind, alike_value, alike_halts, alike_leaves, alike_assoc, alike_chooses, alike_choice}
-use Rattle.lz_turns.specs.Ranks.{count, rank_of, rank, Falls, GoesDown}
-use Rattle.lz_turns.specs.Turning.{turned_by, StaysAt, Entered, ComesBehind}
+use Rattle.lz_tree.specs.Calls.{expression_calls}
+use Rattle.lz_turns.specs.Nears.{Falls, IsTold, part_calls, calls_left, Nears}
+use Rattle.lz_turns.specs.Ranks.{count, rank_of, rank}
+use Rattle.lz_turns.specs.Turning.{turned_by, StaysAt, Entered, ComesBehind, GoesDown}
 use Rattle.lz_turns.proofs.MovesLemmas.{turns_so}
 use Rattle.lz_turns.proofs.RanksLemmas.{turn_falls}
+use Rattle.lz_turns.proofs.NearsLemmas.{step_over, nears_more, turn_nears_more, told_nears, within_nears, entered_nears}
 
 part_is : (o : Option ScopedExpression) (a : ScopedExpression) (code : ScopedExpression → Behaviour Locals ℕ) → o ≡ Some a → (s : Locals) → Alike (code a) s (with_part o code) s
 part_is o a code e s = subst (λ (x : Option ScopedExpression). Alike (code a) s (with_part x code) s) (sym e) (alike_same (code a) s)
@@ -123,6 +127,17 @@ stays_by stage (refuses line) = tt
 stays_by stage quits = tt
 stays_by stage stops = tt
 
+-- a node whose part came so far is nearer, from a place in the part and from its start
+within_near : (e : ScopedExpression) (stage : Stage) (point : Point) (given : ℕ) (before after : Locals) (came : Came) (o : Option ScopedExpression) → part_of e (slot_of stage) ≡ o → PartComes o point given before came after
+    → TurnNears e (calls_left (within stage point) e) (turned_by stage came)
+within_near e stage point given before after came None is part = subst (λ (x : Came). TurnNears e (calls_left (within stage point) e) (turned_by stage x)) (sym part) tt
+within_near e stage point given before after came (Some a) is part = within_nears e a stage point came is part.near
+
+entered_near : (e : ScopedExpression) (stage : Stage) (before after : Locals) (came : Came) (o : Option ScopedExpression) → part_of e (slot_of stage) ≡ o → PartComes o (at_stage start) 0 before came after
+    → TurnNears e (suc (rank e stage) * part_calls e) (turned_by stage came)
+entered_near e stage before after came None is part = subst (λ (x : Came). TurnNears e (suc (rank e stage) * part_calls e) (turned_by stage x)) (sym part) tt
+entered_near e stage before after came (Some a) is part = entered_nears e a stage came is part.near
+
 -- no part
 pub part_missing : (o : Option ScopedExpression) (point : Point) (given : ℕ) (before : Locals) → None ≡ o → PartComes o point given before stops before
 part_missing None point given before is = refl
@@ -140,6 +155,7 @@ entered e stage before after came turned part is =
     record {
       same = λ p n depth. subst (λ (x : Turned). Alike (moved (calls_within p n depth) e (enters stage)) before (behind_turn (calls_within p n depth) e x) after) (sym is) (part_turns e stage (at_stage start) 0 before after came part p n depth);
       stays = subst (λ (x : Turned). StaysAt stage x) (sym is) (stays_by stage came);
+      near = subst (λ (x : Turned). TurnNears e (suc (rank e stage) * part_calls e) x) (sym is) (entered_near e stage before after came (part_of e (slot_of stage)) refl part);
     }
 
 -- within a part, and behind it
@@ -150,14 +166,17 @@ within_comes e stage point given before middle after came end turned part is on 
       same = λ p n depth. alike_alike
           (subst (λ (x : Turned). Alike (resumed (calls_within p n depth) e (within stage point) given) before (behind_turn (calls_within p n depth) e x) middle) (sym is) (part_turns e stage point given before middle came part p n depth))
           (on.same p n depth);
+      near = on.near (calls_left (within stage point) e)
+          (subst (λ (x : Turned). TurnNears e (calls_left (within stage point) e) x) (sym is) (within_near e stage point given before middle came (part_of e (slot_of stage)) refl part));
     }
 
 -- behind a turn that leads to a stage, and behind one that came so far
 pub behind_again : (e : ScopedExpression) (stage : Stage) (v : ℕ) (before after : Locals) (came : Came) (turned : Turned) → turned ≡ again stage v → Comes e (at_stage stage) v before came after → ComesBehind e turned before came after
-behind_again e stage v before after came turned is on = subst (λ (x : Turned). ComesBehind e x before came after) (sym is) (record { same = λ p n depth. on.same p n depth })
+behind_again e stage v before after came turned is on =
+    subst (λ (x : Turned). ComesBehind e x before came after) (sym is) (record { same = λ p n depth. on.same p n depth; near = λ left low. nears_more e (calls_left (at_stage stage) e) left came on.near low })
 
 pub behind_stopped : (e : ScopedExpression) (before : Locals) (came : Came) (turned : Turned) → turned ≡ stopped came → ComesBehind e turned before came before
-behind_stopped e before came turned is = subst (λ (x : Turned). ComesBehind e x before came before) (sym is) (record { same = λ p n depth. alike_same _ before })
+behind_stopped e before came turned is = subst (λ (x : Turned). ComesBehind e x before came before) (sym is) (record { same = λ p n depth. alike_same _ before; near = λ left h. h })
 
 -- ---- one turn
 
@@ -170,22 +189,36 @@ turn_moves e stage v before after move is left p n depth =
     let two = subst (λ (m : Move). Alike (stage_trace calls e stage v) before (moved calls e m) (left_by e stage v before)) (sym is) one in
     subst (λ (t : Locals). Alike (stage_trace calls e stage v) before (moved calls e move) t) (sym left) two
 
+falls_by : (e : ScopedExpression) (stage : Stage) (v : ℕ) (before : Locals) (move : Move) → move ≡ turn_of e stage v before → Falls (expression_calls e) (count (arguments_of e)) (rank e stage) move
+falls_by e stage v before move is = subst (λ (m : Move). Falls (expression_calls e) (count (arguments_of e)) (rank e stage) m) (sym is) (turn_falls e stage v before)
+
+-- a stage with a lower rank
+lower_near : (e : ScopedExpression) (q r : ℕ) → q < r → q * part_calls e ≤ r * part_calls e
+lower_near e q r low = let less = step_over r q (part_calls e) 0 low (omega arith) in omega (arith, less)
+
+-- the rank of a stage at which a node comes to something that it tells
+told_near : (e : ScopedExpression) (stage : Stage) (v : ℕ) (before : Locals) (came : Came) → comes came ≡ turn_of e stage v before → Nears e (rank e stage * part_calls e) came
+told_near e stage v before came is = told_nears e (rank e stage) came (falls_by e stage v before (comes came) is)
+
 pub turn_goes : (e : ScopedExpression) (stage next : Stage) (v w : ℕ) (before after : Locals) → goes next w ≡ turn_of e stage v before → after ≡ left_by e stage v before
     → Turns e stage v before (again next w) after
-turn_goes e stage next v w before after is left = record { same = λ p n depth. turn_moves e stage v before after (goes next w) is left p n depth }
+turn_goes e stage next v w before after is left =
+    record { same = λ p n depth. turn_moves e stage v before after (goes next w) is left p n depth; near = lower_near e (rank e next) (rank e stage) (falls_by e stage v before (goes next w) is) }
 
 pub turn_comes : (e : ScopedExpression) (stage : Stage) (v : ℕ) (before after : Locals) (came : Came) → comes came ≡ turn_of e stage v before → after ≡ left_by e stage v before
     → Turns e stage v before (stopped came) after
-turn_comes e stage v before after came is left = record { same = λ p n depth. turn_moves e stage v before after (comes came) is left p n depth }
+turn_comes e stage v before after came is left =
+    record { same = λ p n depth. turn_moves e stage v before after (comes came) is left p n depth; near = told_near e stage v before came is }
 
 pub turn_enters : (e : ScopedExpression) (stage next : Stage) (v : ℕ) (before middle after : Locals) (turned : Turned) → enters next ≡ turn_of e stage v before → middle ≡ left_by e stage v before
     → Entered e next middle turned after → Turns e stage v before turned after
-turn_enters e stage next v before middle after turned is left inner = record { same = λ p n depth. alike_alike (turn_moves e stage v before middle (enters next) is left p n depth) (inner.same p n depth) }
+turn_enters e stage next v before middle after turned is left inner =
+    record {
+      same = λ p n depth. alike_alike (turn_moves e stage v before middle (enters next) is left p n depth) (inner.same p n depth);
+      near = turn_nears_more e (suc (rank e next) * part_calls e) (rank e stage * part_calls e) turned inner.near (mul-le (suc (rank e next)) (part_calls e) (rank e stage) (part_calls e) (falls_by e stage v before (enters next) is) (omega arith));
+    }
 
 -- ---- nearer to the last stage
-
-falls_by : (e : ScopedExpression) (stage : Stage) (v : ℕ) (before : Locals) (move : Move) → move ≡ turn_of e stage v before → Falls (count (arguments_of e)) (rank e stage) move
-falls_by e stage v before move is = subst (λ (m : Move). Falls (count (arguments_of e)) (rank e stage) m) (sym is) (turn_falls e stage v before)
 
 pub goes_down : (e : ScopedExpression) (stage next : Stage) (v w : ℕ) (before : Locals) → goes next w ≡ turn_of e stage v before → GoesDown (count (arguments_of e)) (rank e stage) (again next w)
 goes_down e stage next v w before is = falls_by e stage v before (goes next w) is
@@ -204,15 +237,22 @@ again_down e stage next w turned is down = subst (λ (x : Turned). GoesDown (cou
 -- ---- turn by turn
 
 pub turns_first : (e : ScopedExpression) (stage : Stage) (v : ℕ) (before : Locals) → Turns e stage v before (again stage v) before
-turns_first e stage v before = record { same = λ p n depth. alike_same _ before }
+turns_first e stage v before = record { same = λ p n depth. alike_same _ before; near = omega arith }
+
+turns_turns : (e : ScopedExpression) (stage now : Stage) (v w : ℕ) (before middle after : Locals) (turned : Turned) → Turns e stage v before (again now w) middle → Turns e now w middle turned after → Turns e stage v before turned after
+turns_turns e stage now v w before middle after turned one two =
+    record {
+      same = λ p n depth. alike_alike (one.same p n depth) (two.same p n depth);
+      near = turn_nears_more e (rank e now * part_calls e) (rank e stage * part_calls e) turned two.near one.near;
+    }
 
 pub turns_next : (e : ScopedExpression) (stage now next : Stage) (v w u : ℕ) (before middle after : Locals) (turned : Turned) → Turns e stage v before (again now w) middle → Turns e now w middle turned after → turned ≡ again next u
     → Turns e stage v before (again next u) after
 turns_next e stage now next v w u before middle after turned one two is =
-    subst (λ (x : Turned). Turns e stage v before x after) is (record { same = λ p n depth. alike_alike (one.same p n depth) (two.same p n depth) })
+    subst (λ (x : Turned). Turns e stage v before x after) is (turns_turns e stage now v w before middle after turned one two)
 
 pub turns_come : (e : ScopedExpression) (stage now : Stage) (v w : ℕ) (before middle after : Locals) (came : Came) (turned : Turned) → Turns e stage v before (again now w) middle → Turns e now w middle turned after → turned ≡ stopped came
     → Comes e (at_stage stage) v before came after
 turns_come e stage now v w before middle after came turned one two is =
-    let whole : Turns e stage v before (stopped came) after = subst (λ (x : Turned). Turns e stage v before x after) is (record { same = λ p n depth. alike_alike (one.same p n depth) (two.same p n depth) }) in
-    record { same = λ p n depth. whole.same p n depth }
+    let whole : Turns e stage v before (stopped came) after = subst (λ (x : Turned). Turns e stage v before x after) is (turns_turns e stage now v w before middle after turned one two) in
+    record { same = λ p n depth. whole.same p n depth; near = whole.near }

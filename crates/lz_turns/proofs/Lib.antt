@@ -2,6 +2,7 @@ pub mod AdvanceLemmas
 pub mod ArgumentsLemmas
 pub mod CallsLemmas
 pub mod MovesLemmas
+pub mod NearsLemmas
 pub mod PartsLemmas
 pub mod RanksLemmas
 pub mod SeenLemmas

@@ -1,6 +1,7 @@
 pub mod Callees
 pub mod Fits
 pub mod Moves
+pub mod Nears
 pub mod Ranks
 pub mod Resumed
 pub mod Seen

@@ -1,9 +1,8 @@
 -- Inner: how far a node is from its last stage: each turn brings it nearer.
-use Rattle.std.specs.Prelude.{ℕ, suc, ◌+◌, ◌*◌, ◌-◌, ◌<◌, max, length, ⊤}
+use Rattle.std.specs.Prelude.{ℕ, suc, ◌+◌, ◌*◌, ◌-◌, max, length}
 use Rattle.lz_tree.specs.ScopedTrees.{ScopedExpression, ScopedExpressions, none, and}
-use Rattle.lz_turns.specs.Stages.{Stage, start, given, settled, indexed, ready, old, valued, writing, operand, first, second, taken, other, calling, argument, passing, handed, arguing, argued, woken, made, Move, enters, goes, comes}
+use Rattle.lz_turns.specs.Stages.{Stage, start, given, settled, indexed, ready, old, valued, writing, operand, first, second, taken, other, calling, argument, passing, handed, arguing, argued, woken, made}
 use Rattle.lz_turns.specs.Moves.{arguments_of}
-use Rattle.lz_turns.specs.Resumed.{Turned, again, stopped}
 
 abbrev pub count : ScopedExpressions → ℕ
 count none = 0
@@ -35,14 +34,3 @@ rank_of n (made handle) = 1
 
 abbrev pub rank : ScopedExpression → Stage → ℕ
 rank e stage = rank_of (count (arguments_of e)) stage
-
--- a move leads below this rank
-abbrev pub Falls : ℕ → ℕ → Move → Type 0
-Falls n r (enters stage) = rank_of n stage < r
-Falls n r (goes stage v) = rank_of n stage < r
-Falls n r (comes came) = ⊤
-
--- a turn leads below this rank
-abbrev pub GoesDown : ℕ → ℕ → Turned → Type 0
-GoesDown n r (again stage v) = rank_of n stage < r
-GoesDown n r (stopped came) = ⊤

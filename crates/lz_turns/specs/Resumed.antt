@@ -1,5 +1,5 @@
 -- Inner: what an expression may do from a place in it, in the terms of the traces of code.
-use Rattle.std.specs.Prelude.{◌≡◌, ℕ, zero, suc, ◌+◌, Bool, false, nat_lt, List, [], ◌∷◌, ◌++◌, length, Option, Some, None, if◌then◌else◌}
+use Rattle.std.specs.Prelude.{◌≡◌, ℕ, zero, suc, ◌+◌, ◌*◌, ◌≤◌, Bool, false, nat_lt, List, [], ◌∷◌, ◌++◌, length, Option, Some, None, if◌then◌else◌}
 use Rattle.lz_base.specs.Words.{is_true, truth, converted}
 use Rattle.lz_base.specs.declared.operator.Binary.{Binary}
 use Rattle.lz_base.specs.declared.operator.Binary.TheVariants as ops
@@ -14,6 +14,8 @@ use Rattle.lz_model.specs.CodeTraces.{Locals, set_local, set_handle, Calls, at, 
 use Rattle.lz_model.specs.Programs.{calls_within}
 use Rattle.lz_turns.specs.Stages.{Stage, start, given, settled, indexed, ready, old, valued, writing, operand, first, second, taken, other, calling, argument, passing, handed, arguing, argued, woken, made, Point, at_stage, within, Came, settles, acts, reads, asks, signals, creates, calls_on, fails, refuses, quits, stops, Move, enters, goes, comes}
 use Rattle.lz_turns.specs.Moves.{slot_of, part_of, Called, function_called, known_called, not_called, called, argument_at, arguments_of}
+use Rattle.lz_turns.specs.Nears.{part_calls, calls_left, Nears}
+use Rattle.lz_turns.specs.Ranks.{rank}
 use Rattle.lz_turns.specs.Seen.{Alike}
 
 -- a read and a write of an element, by its number
@@ -368,9 +370,11 @@ moved calls e (enters stage) = resumed calls e (within stage (at_stage start)) 0
 moved calls e (goes stage v) = stage_trace calls e stage v
 moved calls e (comes came) = behind calls e came
 
--- An expression comes so far, from this place and these local values to those: the program's calls may go to any depth.
+-- An expression comes so far, from this place and these local values to those, whatever the depth of the program's
+-- calls; each call brings it nearer to its end.
 pub record Comes (e : ScopedExpression) (point : Point) (given : ℕ) (before : Locals) (came : Came) (after : Locals) : Type 0 where
   pub same : (p : ScopedProgram) (n depth : ℕ) → Alike (resumed (calls_within p n depth) e point given) before (behind (calls_within p n depth) e came) after
+  pub near : Nears e (calls_left point e) came
 
 -- A part comes so far, where there is one; where there is none, nothing comes.
 abbrev pub PartComes : Option ScopedExpression → Point → ℕ → Locals → Came → Locals → Type 0
@@ -386,6 +390,12 @@ abbrev pub behind_turn : Calls → ScopedExpression → Turned → Behaviour Loc
 behind_turn calls e (again stage v) = stage_trace calls e stage v
 behind_turn calls e (stopped came) = behind calls e came
 
+-- a node comes so near by a turn, where so many calls were left
+abbrev pub TurnNears : ScopedExpression → ℕ → Turned → Type 0
+TurnNears e left (again stage v) = rank e stage * part_calls e ≤ left
+TurnNears e left (stopped came) = Nears e left came
+
 -- a node comes by turns from one stage to this, with these local values
 pub record Turns (e : ScopedExpression) (stage : Stage) (given : ℕ) (before : Locals) (turned : Turned) (after : Locals) : Type 0 where
   pub same : (p : ScopedProgram) (n depth : ℕ) → Alike (stage_trace (calls_within p n depth) e stage given) before (behind_turn (calls_within p n depth) e turned) after
+  pub near : TurnNears e (rank e stage * part_calls e) turned

@@ -1,5 +1,5 @@
 -- Inner: a turn as code holds it, and what comes behind a part that came so far.
-use Rattle.std.specs.Prelude.{◌≡◌, ℕ, ⊤}
+use Rattle.std.specs.Prelude.{◌≡◌, ℕ, suc, ◌*◌, ◌<◌, ⊤}
 use Rattle.lz_tree.specs.ScopedTrees.{ScopedExpression, ScopedProgram}
 use Rattle.lz_model.specs.CodeTraces.{Locals}
 use Rattle.lz_model.specs.Programs.{calls_within}
@@ -7,7 +7,9 @@ use Rattle.lz_turns.specs.declared.advancing.Turned as held
 use Rattle.lz_turns.specs.declared.advancing.Turned.TheVariants.{Again, Stopped}
 use Rattle.lz_turns.specs.Stages.{Stage, stage_of, Came, settles, acts, reads, asks, signals, creates, calls_on, fails, refuses, quits, stops, came_of, enters, inside}
 use Rattle.lz_turns.specs.Seen.{Alike}
-use Rattle.lz_turns.specs.Resumed.{Turned, again, stopped, moved, behind, behind_turn}
+use Rattle.lz_turns.specs.Nears.{part_calls, Nears}
+use Rattle.lz_turns.specs.Ranks.{rank_of, rank}
+use Rattle.lz_turns.specs.Resumed.{Turned, again, stopped, moved, behind, behind_turn, TurnNears}
 
 abbrev pub turned_of : held.Turned → Turned
 turned_of (Again stage value) = again (stage_of stage) value
@@ -36,7 +38,14 @@ StaysAt stage (stopped came) = ⊤
 pub record Entered (e : ScopedExpression) (stage : Stage) (before : Locals) (turned : Turned) (after : Locals) : Type 0 where
   pub same : (p : ScopedProgram) (n depth : ℕ) → Alike (moved (calls_within p n depth) e (enters stage)) before (behind_turn (calls_within p n depth) e turned) after
   pub stays : StaysAt stage turned
+  pub near : TurnNears e (suc (rank e stage) * part_calls e) turned
 
 -- a node comes so far behind this turn
 pub record ComesBehind (e : ScopedExpression) (turned : Turned) (before : Locals) (came : Came) (after : Locals) : Type 0 where
   pub same : (p : ScopedProgram) (n depth : ℕ) → Alike (behind_turn (calls_within p n depth) e turned) before (behind (calls_within p n depth) e came) after
+  pub near : (left : ℕ) → TurnNears e left turned → Nears e left came
+
+-- a turn leads below this rank
+abbrev pub GoesDown : ℕ → ℕ → Turned → Type 0
+GoesDown n r (again stage v) = rank_of n stage < r
+GoesDown n r (stopped came) = ⊤

@@ -6,8 +6,8 @@ ghost use Rattle.lz_turns.specs.Moves as spec;
 ghost use Rattle.lz_turns.specs.Moves.{turn_of, left_by, slot_of, part_of};
 ghost use Rattle.lz_turns.specs.Fits.{IsFit};
 ghost use Rattle.lz_turns.specs.Resumed.{Comes, PartComes, Turns};
-ghost use Rattle.lz_turns.specs.Ranks.{GoesDown, rank, count};
-ghost use Rattle.lz_turns.specs.Turning.{turned_of, turned_by, Entered, ComesBehind};
+ghost use Rattle.lz_turns.specs.Ranks.{rank, count};
+ghost use Rattle.lz_turns.specs.Turning.{turned_of, turned_by, Entered, ComesBehind, GoesDown};
 
 use crate::calls::{
     argued_move, arguing_move, argument_move, arguments, called, calling_move, handed_move,

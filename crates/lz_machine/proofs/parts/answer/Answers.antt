@@ -1,7 +1,8 @@
 use Rattle.lz_tree.specs.ScopedTrees.{scoped_program}
-use Rattle.lz_machine.specs.Held.{running_of, turned_of, word_of}
+use Rattle.lz_machine.specs.Held.{running_of, turned_of}
+use Rattle.lz_machine.specs.Starts.{word_of}
 use Rattle.lz_machine.proofs.ThreadLemmas.{told}
-use Rattle.lz_machine.proofs.thread.answer.Goals as goal
+use Rattle.lz_machine.proofs.parts.answer.Goals as goal
 
 pub returns-clause-answers : goal.returns-clause-answers
 returns-clause-answers c =

@@ -1,0 +1,37 @@
+-- Inner: where a statement stands, how far it came and what a step leads to, as code holds them.
+use Rattle.lz_stations.specs.declared.footing.Footing.{Footing, At, InValue, InPart'}
+use Rattle.lz_stations.specs.declared.footing.Pause as held_pause
+use Rattle.lz_stations.specs.declared.footing.Pause.TheVariants as code_pauses
+use Rattle.lz_stations.specs.declared.footing.Reached as held_reached
+use Rattle.lz_stations.specs.declared.footing.Reached.TheVariants as code_reached
+use Rattle.lz_stations.specs.declared.walking.Stepped as held_stepped
+use Rattle.lz_stations.specs.declared.walking.Stepped.TheVariants.{Again, Stopped}
+use Rattle.lz_turns.specs.Stages.{point_of}
+use Rattle.lz_stations.specs.Stations as at
+use Rattle.lz_stations.specs.StationsHeld.{flow_of, station_of}
+use Rattle.lz_stations.specs.Walks.{Stepped, again, stopped}
+
+abbrev pub footing_of : Footing → at.Footing
+footing_of (At station) = at.at_station (station_of station)
+footing_of (InValue station inner) = at.in_value (station_of station) (point_of inner)
+footing_of (InPart' station p inner) = at.in_part (station_of station) (footing_of inner)
+
+abbrev pub pause_of : held_pause.Pause → at.Pause
+pause_of (code_pauses.Acts action line) = at.acts action line
+pause_of (code_pauses.Reads cell line) = at.reads cell line
+pause_of (code_pauses.Asks line kind) = at.asks line kind
+pause_of (code_pauses.Signals cond line) = at.signals cond line
+pause_of (code_pauses.Creates routine value line) = at.creates routine value line
+pause_of (code_pauses.Calls function kinds values) = at.calls_on function kinds.items values.items
+
+abbrev pub reached_of : held_reached.Reached → at.Reached
+reached_of (code_reached.Leads flow) = at.leads (flow_of flow)
+reached_of (code_reached.Pauses pause footing) = at.pauses (pause_of pause) (footing_of footing)
+reached_of (code_reached.Fails kind line) = at.fails kind line
+reached_of (code_reached.Refuses line) = at.refuses line
+reached_of code_reached.Exits = at.quits
+reached_of code_reached.Stops = at.stops
+
+abbrev pub stepped_of : held_stepped.Stepped → Stepped
+stepped_of (Again station value flow) = again (station_of station) value (flow_of flow)
+stepped_of (Stopped reached) = stopped (reached_of reached)
