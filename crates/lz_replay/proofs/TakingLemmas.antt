@@ -2,7 +2,6 @@
 use Rattle.std.proofs.Common.{◌≡◌, ◌≢◌, ℕ, ◌<◌, ◌≤◌, Bool, true, false, ◌&&◌, eqb, ltb, ◌∷◌, slice_index, Option, Some, None, refl, sym, ap, subst, arith}
 use Rattle.std.proofs.lemmas.Bool.{eqb-true, eqb-false}
 use Rattle.std.proofs.lemmas.Bool.Decides.{nat_tests}
-use Rattle.std.proofs.Math.Nat.{mod-eq_of_lt}
 use Rattle.lz_base.specs.Words.{value_bound}
 use Rattle.lz_tree.specs.ScopedTrees.{ScopedProgram}
 use Rattle.lz_model.specs.declared.actions.Action.{Action}
@@ -55,7 +54,7 @@ module _ (p : ScopedProgram) (n : ℕ) (s : State) (choice : ℕ) (before after 
       let below : slice_index s.cells cell < value_bound = grind (arith, nat_tests) in
       record {
         next_ = λ step same made. read_next p n before after choice cell line is s step same made none below;
-        here = subst (λ (w : ℕ). Same (λ acts. MayDo p n before (at line (Rd cell (slice_index s.cells cell)) ∷ acts)) (MayDo p n (read_back (Some w) after))) (sym (mod-eq_of_lt below)) (read_here p n before after choice cell line is (slice_index s.cells cell) none below);
+        here = read_here p n before after choice cell line is (slice_index s.cells cell) none below;
       }
   reads_taken cell line is true false h k =
       let large : value_bound ≤ slice_index s.cells cell = grind (arith, nat_tests) in

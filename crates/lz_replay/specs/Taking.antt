@@ -9,12 +9,10 @@ use Rattle.lz_model.specs.Actions.{Act, choice_of, Start, started_by}
 use Rattle.lz_model.specs.Store.{State, blocked, act}
 use Rattle.lz_model.specs.CodeTraces.{at}
 use Rattle.lz_machine.specs.Threads as threads
-use Rattle.lz_machine.specs.Threads.{MayDo, IsOf}
-use Rattle.lz_machine.specs.Answers.{Answer, reads, acts, has_ended, is_cut, read_back, HasWord, Begins}
-use Rattle.lz_machine.specs.Held as machine
-use Rattle.lz_machine.specs.Held.{word_of}
+use Rattle.lz_machine.specs.Threads.{stopped, MayDo}
+use Rattle.lz_machine.specs.Answers.{Answer, reads, acts, has_ended, is_cut, read_back}
+use Rattle.lz_machine.specs.Starts.{IsThreadOf, IsStarted, IsWordAction, word_of}
 use Rattle.lz_machine.specs.declared.answer.ReadBack.TheVariants as back
-use Rattle.lz_machine.specs.declared.answer.Standing.TheVariants as standings
 use Rattle.lz_replay.specs.declared.threads.Held.{Held}
 use Rattle.lz_replay.specs.declared.threads.Taken.{Taken}
 use Rattle.lz_replay.specs.Lines.{some_where}
@@ -62,7 +60,7 @@ IsTaken p n state choice before (Some taken) after = Takes p n state choice befo
 
 -- an argument that is taken is a word
 abbrev pub IsWord : Taken → Type 0
-IsWord taken = HasWord (acts taken.action taken.line)
+IsWord taken = IsWordAction taken.action
 
 abbrev pub IsWordTaken : Option Taken → Type 0
 IsWordTaken None = ⊤
@@ -72,10 +70,10 @@ IsWordTaken (Some taken) = IsWord taken
 
 -- the thread behind what was read
 abbrev pub thread_of : Held → threads.Thread
-thread_of held = read_back (word_of held.read) (machine.thread_of held.thread)
+thread_of held = read_back (word_of held.read) held.thread
 
 abbrev pub nobody : Held
-nobody = record { thread = record { standing = standings.Stopped; whole = false }; read = back.Nothing }
+nobody = record { thread = record { standing = stopped; whole = false }; read = back.Nothing }
 
 -- the thread of this number
 abbrev pub thread_at : List Held → ℕ → threads.Thread
@@ -83,11 +81,11 @@ thread_at held thread = thread_of (slice_index_or held thread nobody)
 
 -- the thread is one of the program
 abbrev pub IsHeldOf : ScopedProgram → Held → Type 0
-IsHeldOf p held = IsOf p.functions (machine.thread_of held.thread)
+IsHeldOf p held = IsThreadOf p held.thread
 
 -- a thread that begins so, before its first action
 pub record HasBegun (p : ScopedProgram) (routine : Option ℕ) (value : ℕ) (held : Held) : Type 0 where
-  pub begins : Begins p routine value (thread_of held)
+  pub begins : IsStarted p routine value (thread_of held)
   pub own : IsHeldOf p held
 
 -- one more thread is there

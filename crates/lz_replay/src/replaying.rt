@@ -1,9 +1,8 @@
 ghost use Rattle.std.specs.Prelude.{◌≡◌, ◌<◌, List, [], ◌∷◌, ◌++◌, IfOk, IsTrue};
-ghost use Rattle.lz_tree.specs.Calls.{IsCallOrder};
 ghost use Rattle.lz_tree.specs.ScopedTrees.{scoped_program};
 ghost use Rattle.lz_model.specs.declared.schedule.Step as steps;
 ghost use Rattle.lz_store.specs.Answers.{IsWithin};
-ghost use Rattle.lz_machine.specs.Weights.{AreFitBodies};
+ghost use Rattle.lz_machine.specs.Starts.{IsRunnable};
 ghost use Rattle.lz_replay.specs.Taking.{IsWord, IsHeldOf};
 ghost use Rattle.lz_replay.specs.Replaying as spec;
 ghost use Rattle.lz_replay.specs.Replaying.{AreOf, IsReplay, HasAdvanced, HasTaken, HasActed, HasStepped};
@@ -90,8 +89,7 @@ fn advance(
     store: &Store,
     held: &mut Held,
 ) -> Result<Option<Taken>, Memory>
-    requires ordered { IsCallOrder (scoped_program scoped.now).functions order.now }
-    requires fit { AreFitBodies (scoped_program scoped.now).functions }
+    requires program { IsRunnable (scoped_program scoped.now) order.now }
     requires own { IsHeldOf (scoped_program scoped.now) held.old }
     ensures { IfOk result (λ taken. HasAdvanced (scoped_program scoped.now) unwind store.now choice held.old taken held.new) }
 {
@@ -125,8 +123,7 @@ fn next(
     store: &Store,
     threads: &mut Vec<Held>,
 ) -> Result<Option<Taken>, Memory>
-    requires ordered { IsCallOrder (scoped_program scoped.now).functions order.now }
-    requires fit { AreFitBodies (scoped_program scoped.now).functions }
+    requires program { IsRunnable (scoped_program scoped.now) order.now }
     requires own { AreOf (scoped_program scoped.now) threads.old.items }
     ensures { IfOk result (λ taken. HasTaken (scoped_program scoped.now) unwind store.now step threads.old.items taken threads.new.items) }
 {
@@ -155,8 +152,7 @@ fn go(
     store: &mut Store,
     threads: &mut Vec<Held>,
 ) -> Result<Stepped, Memory>
-    requires ordered { IsCallOrder (scoped_program scoped.now).functions order.now }
-    requires fit { AreFitBodies (scoped_program scoped.now).functions }
+    requires program { IsRunnable (scoped_program scoped.now) order.now }
     requires own { AreOf (scoped_program scoped.now) threads.old.items }
     ensures { IfOk result (λ stepped. (steps : List steps.Step) → IsReplay (scoped_program scoped.now) unwind steps store.old threads.old.items → HasStepped (scoped_program scoped.now) unwind (steps ++ step ∷ []) stepped store.new threads.new.items) }
 {
@@ -179,8 +175,7 @@ fn through(
     store: &mut Store,
     threads: &mut Vec<Held>,
 ) -> Result<Replayed, Memory>
-    requires ordered { IsCallOrder (scoped_program scoped.now).functions order.now }
-    requires fit { AreFitBodies (scoped_program scoped.now).functions }
+    requires program { IsRunnable (scoped_program scoped.now) order.now }
     requires begins { IsReplay (scoped_program scoped.now) unwind [] store.old threads.old.items }
     ensures { IfOk result (λ replayed. Says (scoped_program scoped.now) unwind steps.now replayed) }
 {
@@ -207,8 +202,7 @@ pub fn replay(
     unwind: u32,
     schedule: &Schedule,
 ) -> Result<Replayed, Memory>
-    requires ordered { IsCallOrder (scoped_program scoped.now).functions order.now }
-    requires fit { AreFitBodies (scoped_program scoped.now).functions }
+    requires { IsRunnable (scoped_program scoped.now) order.now }
     ensures { IfOk result (λ replayed. Says (scoped_program scoped.now) unwind schedule.now replayed) }
 {
     let mut store = Store::new(alloc, scoped)?;

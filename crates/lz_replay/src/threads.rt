@@ -1,16 +1,12 @@
-ghost use Rattle.std.specs.Prelude.{◌≡◌, ◌<◌, length, IfOk, IfSome, OnOk, IsTrue};
-ghost use Rattle.lz_base.specs.Words.{value_bound};
-ghost use Rattle.lz_tree.specs.Calls.{IsCallOrder};
+ghost use Rattle.std.specs.Prelude.{◌≡◌, IfOk, OnOk};
 ghost use Rattle.lz_tree.specs.ScopedTrees.{scoped_program};
 ghost use Rattle.lz_model.specs.Actions as told;
-ghost use Rattle.lz_machine.specs.Threads.{IsOf};
 ghost use Rattle.lz_machine.specs.Answers.{read_back};
-ghost use Rattle.lz_machine.specs.Weights.{AreFitBodies};
-ghost use Rattle.lz_machine.specs.Held.{word_of, answer_of, thread_of};
+ghost use Rattle.lz_machine.specs.Starts.{IsRunnable, IsThreadOf, word_of, answer_of};
 ghost use Rattle.lz_replay.specs.Taking as spec;
 ghost use Rattle.lz_replay.specs.Taking.{IsTaken, IsWord, IsWordTaken, IsAdded, HasMade};
 
-use lz_base::{Memory, Value};
+use lz_base::Memory;
 use lz_machine::{Next, ReadBack, Thread};
 use lz_model::Action;
 use lz_store::Store;
@@ -83,7 +79,9 @@ fn found(cell: u32, line: u32, choice: u64, value: u64) -> Option<Taken>
         Some(Taken {
             action: Action::Rd { cell, value },
             line,
-            read: ReadBack::Value { value },
+            read: ReadBack::Value {
+                value: value as u32,
+            },
         })
     } else {
         None
@@ -112,50 +110,26 @@ pub fn take(
     thread: &mut Thread,
     read: ReadBack,
 ) -> Result<Option<Taken>, Memory>
-    requires ordered { IsCallOrder (scoped_program scoped.now).functions order.now }
-    requires fit { AreFitBodies (scoped_program scoped.now).functions }
-    requires own { IsOf (scoped_program scoped.now).functions (thread_of thread.old) }
-    ensures takes { IfOk result (λ taken. IsTaken (scoped_program scoped.now) unwind store.now choice (read_back (word_of read) (thread_of thread.old)) taken (thread_of thread.new)) }
-    ensures own { IfOk result (λ taken. IsOf (scoped_program scoped.now).functions (thread_of thread.new)) }
+    requires program { IsRunnable (scoped_program scoped.now) order.now }
+    requires own { IsThreadOf (scoped_program scoped.now) thread.old }
+    ensures takes { IfOk result (λ taken. IsTaken (scoped_program scoped.now) unwind store.now choice (read_back (word_of read) thread.old) taken thread.new) }
+    ensures own { IfOk result (λ taken. IsThreadOf (scoped_program scoped.now) thread.new) }
     ensures words { IfOk result (λ taken. IsWordTaken taken) }
 {
     let next = thread.next(alloc, scoped, order, unwind, choice, read)?;
     Ok(taken_of(next, choice, store))
 }
 
-/// Whether the program has a function of this number.
-fn has_function(scoped: &Scoped, function: u32) -> bool
-    ensures { IsTrue result → function < length (scoped_program scoped.now).functions }
-{
-    (function as usize) < scoped.functions.items().len()
-}
-
-/// Whether the program has its `main` and this routine, if one is asked for.
-fn has_routine(scoped: &Scoped, routine: Option<u32>) -> bool
-    ensures main { IsTrue result → (scoped_program scoped.now).main < length (scoped_program scoped.now).functions }
-    ensures routine { IsTrue result → IfSome routine (λ f. f < length (scoped_program scoped.now).functions) }
-{
-    match routine {
-        Some(function) => has_function(scoped, scoped.main) && has_function(scoped, function),
-        None => has_function(scoped, scoped.main),
-    }
-}
-
-/// Adds `main` before its first action, or a routine with its argument. A program that lacks the function, which no
-/// checked one does, comes to want of memory.
+/// Adds `main` before its first action, or a routine with its argument.
 pub fn start(
     alloc: Global,
     scoped: &Scoped,
     routine: Option<u32>,
-    value: Value,
+    value: u32,
     threads: &mut Vec<Held>,
 ) -> Result<(), Memory>
-    requires { value < value_bound }
     ensures { OnOk result (IsAdded (scoped_program scoped.now) routine value threads.old.items threads.new.items) }
 {
-    if !has_routine(scoped, routine) {
-        return Err(Memory);
-    }
     let thread = Thread::start(alloc, scoped, routine, value)?;
     let read = ReadBack::Nothing;
     threads.push(Held { thread, read })?;
@@ -178,7 +152,7 @@ pub fn make(
             value,
             ..
         } => {
-            start(alloc, scoped, Some(routine), value, threads)?;
+            start(alloc, scoped, Some(routine), value as u32, threads)?;
             Ok(())
         }
         _ => Ok(()),
