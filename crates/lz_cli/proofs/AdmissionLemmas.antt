@@ -8,10 +8,9 @@ use Rattle.lz_types.proofs.UniqueLemmas.{one_list}
 use Rattle.lz_slots.specs.Nesting.{saturated}
 use Rattle.lz_slots.specs.Slots.{slots}
 use Rattle.lz_slots.specs.Costs.{cost}
-use Rattle.lz_cli.specs.declared.ending.Ending.{Ending}
 use Rattle.lz_cli.specs.declared.ending.Ending.TheVariants.{Faulty, ManySlots, HighCost}
 use Rattle.lz_cli.specs.Limits.{Bounds, slot_limit, cost_limit}
-use Rattle.lz_cli.specs.Admission.{IsFaulty, IsAccepted, HasManySlots, HasHighCost, IsAdmitted}
+use Rattle.lz_cli.specs.Admission.{IsFaulty, IsAccepted, HasManySlots, HasHighCost}
 use Rattle.lz_cli.proofs.SourceLemmas.{OneTree, one_tree}
 
 -- ---- rules
@@ -22,7 +21,7 @@ empty_list first rest e = absurd cc
 same_first : (a b : Fault) (xs ys : List Fault) → a ∷ xs ≡ b ∷ ys → a ≡ b
 same_first a b xs ys e = cc
 
-same_accepted : OneTree → (bytes : List ℕ) (t u : TranslationUnit) → IsAccepted bytes t → IsAccepted bytes u → t ≡ u
+pub same_accepted : OneTree → (bytes : List ℕ) (t u : TranslationUnit) → IsAccepted bytes t → IsAccepted bytes u → t ≡ u
 same_accepted one bytes t u a b = one_tree one bytes t u a.of b.of
 
 -- no program breaks a rule and none

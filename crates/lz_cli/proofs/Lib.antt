@@ -2,5 +2,10 @@ mod AdmissionLemmas
 pub mod DecideLemmas
 pub mod EndingLemmas
 pub mod ExactnessLemmas
+mod NamesLemmas
+pub mod NumbersLemmas
+mod OriginLemmas
 pub mod RefutationLemmas
+mod ScheduleLemmas
 mod SourceLemmas
+pub mod WordsLemmas

@@ -8,17 +8,21 @@ use Rattle.lz_model.specs.declared.action.Event.{Event}
 use Rattle.lz_model.specs.declared.schedule.Step.{Step}
 use Rattle.lz_model.specs.Rounds.{rounds_of, threads_of}
 use Rattle.lz_model.specs.Violation.{IsBrokenRun, Violated, Follows}
+use Rattle.lz_model.specs.ScheduleText.{IsScheduleText, IsNoSchedule}
+use Rattle.lz_resolve.specs.ScopedPrograms.{scoped_of}
+use Rattle.lz_replay.specs.declared.answer.Replayed.{Replayed}
+use Rattle.lz_replay.specs.Replays.{Says}
 use Rattle.lz_cnf.specs.declared.clause.Cnf.{Cnf}
 use Rattle.lz_cnf.specs.Models.{IsFormula, HasModel}
 use Rattle.lz_log.specs.declared.log.LogStep.{LogStep}
 use Rattle.lz_log.specs.Refutation.{Refutes}
 use Rattle.lz_cli.specs.declared.ending.Ending.{Ending}
-use Rattle.lz_cli.specs.declared.ending.Ending.TheVariants.{Successful, Failed, NotAToken, NotAProgram, Faulty, ManySlots, HighCost, Recheck, NotBuilt, FileTooLong, ProofTooLong, ReadFault, OutOfMemory}
-use Rattle.lz_cli.specs.CommandLine.{IsFileName, IsProofName, IsNamed}
+use Rattle.lz_cli.specs.declared.ending.Ending.TheVariants.{Successful, Failed, NotAToken, NotAProgram, Faulty, ManySlots, HighCost, Recheck, Replay, NotBuilt, FileTooLong, ScheduleTooLong, ProofTooLong, BadSchedule, ReadFault, OutOfMemory}
+use Rattle.lz_cli.specs.CommandLine.{IsProofName, IsCheckName, IsReplayName, IsSourceName, IsNamed}
 use Rattle.lz_cli.specs.Recheck.{proof_limit, IsRechecked}
 use Rattle.lz_cli.specs.Source.{HasNoTokens, HasNoTree, IsFirstForm, IsOtherForm}
 use Rattle.lz_base.specs.Limits.{file_limit}
-use Rattle.lz_cli.specs.Limits.{Bounds, defaults}
+use Rattle.lz_cli.specs.Limits.{Bounds, checking, replaying, schedule_limit}
 use Rattle.lz_cli.specs.Admission.{IsFaulty, HasManySlots, HasHighCost, IsAdmitted}
 
 -- ---- verdicts on the bytes of a file
@@ -67,9 +71,12 @@ IsVerdict bounds bytes (Faulty line rule) = IsFaulty bytes line rule
 IsVerdict bounds bytes (ManySlots slots) = HasManySlots bounds bytes slots
 IsVerdict bounds bytes (HighCost cost) = HasHighCost bounds bytes cost
 IsVerdict bounds bytes (Recheck answer) = ⊥
+IsVerdict bounds bytes (Replay answer) = ⊥
 IsVerdict bounds bytes (NotBuilt line) = IsNotBuilt bounds bytes line
 IsVerdict bounds bytes FileTooLong = ⊥
+IsVerdict bounds bytes ScheduleTooLong = ⊥
 IsVerdict bounds bytes ProofTooLong = ⊥
+IsVerdict bounds bytes (BadSchedule line) = ⊥
 IsVerdict bounds bytes (ReadFault name) = ⊥
 IsVerdict bounds bytes OutOfMemory = ⊤
 
@@ -87,16 +94,71 @@ abbrev pub call_of : List (List ℕ) → Option FileMap → ℕ → ℕ → Call
 call_of words files faults_before faults_after =
     record { words = words; files = files; faults_before = faults_before; faults_after = faults_after }
 
--- the words name a file, it holds these bytes, where that is told, and they are within the limit
-pub record IsSource (call : Call) (bytes : List ℕ) : Type 0 where
+-- the words name a file whose program is decided, it holds these bytes, where that is told, and they are within the limit
+pub record IsSource (call : Call) (turns : ℕ) (bytes : List ℕ) : Type 0 where
   pub name : List ℕ
-  pub named : IsFileName call.words name
+  pub named : IsCheckName call.words turns name
   pub held : Holds call.files name bytes
   pub within_limit : length bytes ≤ file_limit
 
--- the ending is the verdict on the bytes of the named file, within the default bounds, which no word changes
+-- the ending is the verdict on the bytes of the named file, within the default bounds but for the turns, which a word may say
 abbrev pub IsFromFile : Call → Ending → Type 0
-IsFromFile call ending = (bytes : List ℕ) × IsSource call bytes × IsVerdict defaults bytes ending
+IsFromFile call ending = (turns : ℕ) × (bytes : List ℕ) × IsSource call turns bytes × IsVerdict (checking turns) bytes ending
+
+-- the words name a schedule and a file whose program is run by it, the file holds these bytes, where that is told, and they
+-- are within the limit
+pub record IsRunSource (call : Call) (turns : ℕ) (schedule bytes : List ℕ) : Type 0 where
+  pub name : List ℕ
+  pub named : IsReplayName call.words turns schedule name
+  pub held : Holds call.files name bytes
+  pub within_limit : length bytes ≤ file_limit
+
+-- the ending says why the program of the file is not run
+abbrev pub IsFromReplay : Call → Ending → Type 0
+IsFromReplay call ending =
+    (turns : ℕ) × (schedule : List ℕ) × (bytes : List ℕ) × IsRunSource call turns schedule bytes × IsVerdict (replaying turns) bytes ending
+
+-- the ending says why the program of a file is neither decided nor run
+abbrev pub IsFromSource : Call → Ending → Type 0
+IsFromSource call ending = IsFromFile call ending ⊎ IsFromReplay call ending
+
+-- the words name a schedule and a file, whose program breaks no rule and is within the limits
+pub record IsRun (call : Call) (turns : ℕ) (schedule bytes : List ℕ) : Type 0 where
+  pub source : IsRunSource call turns schedule bytes
+  pub admitted : IsAdmitted (replaying turns) bytes
+
+-- the schedule holds these bytes too, where that is told, and they are within the limit
+pub record IsRunBy (call : Call) (turns : ℕ) (bytes text : List ℕ) : Type 0 where
+  pub schedule : List ℕ
+  pub run : IsRun call turns schedule bytes
+  pub held : Holds call.files schedule text
+  pub within_limit : length text ≤ schedule_limit
+
+-- the schedule has a reading, and the answer to it is right on the runs of the program
+pub record IsReplayed (call : Call) (answer : Replayed) : Type 0 where
+  pub turns : ℕ
+  pub bytes : List ℕ
+  pub text : List ℕ
+  pub by : IsRunBy call turns bytes text
+  pub steps : List Step
+  pub read : IsScheduleText text steps
+  pub says : Says (scoped_of by.run.admitted.tree) turns steps answer
+
+-- the schedule has no reading; this is the first line without one
+pub record IsBadSchedule (call : Call) (line : ℕ) : Type 0 where
+  pub turns : ℕ
+  pub bytes : List ℕ
+  pub text : List ℕ
+  pub by : IsRunBy call turns bytes text
+  pub bad : IsNoSchedule text line
+
+-- the schedule is longer than the limit, where that is told
+pub record IsScheduleTooLong (call : Call) : Type 0 where
+  pub turns : ℕ
+  pub schedule : List ℕ
+  pub bytes : List ℕ
+  pub run : IsRun call turns schedule bytes
+  pub longer : IsLonger call.files schedule schedule_limit
 
 -- the words name a proof file, it holds these bytes, where that is told, and they are within the limit
 pub record IsProofSource (call : Call) (bytes : List ℕ) : Type 0 where
@@ -118,7 +180,7 @@ NamesNoFile call = (name : List ℕ) → IsNamed call.words name → ⊥
 -- the file is longer than the limit, where that is told
 pub record IsFileTooLong (call : Call) : Type 0 where
   pub name : List ℕ
-  pub named : IsFileName call.words name
+  pub named : IsSourceName call.words name
   pub longer : IsLonger call.files name file_limit
 
 -- the told files lack the named file, or the count of failed reads rose in this call or stands at its end
@@ -126,18 +188,29 @@ pub record IsReadFault (call : Call) (name : List ℕ) : Type 0 where
   pub named : IsNamed call.words name
   pub cause : Rose call.faults_before call.faults_after ⊎ Lacks call.files name
 
+-- The program of the file breaks no rule and is within the limits, and the told files lack the schedule of this name, or the
+-- count of failed reads rose in this call or stands at its end.
+pub record IsScheduleFault (call : Call) (schedule : List ℕ) : Type 0 where
+  pub turns : ℕ
+  pub bytes : List ℕ
+  pub run : IsRun call turns schedule bytes
+  pub cause : Rose call.faults_before call.faults_after ⊎ Lacks call.files schedule
+
 -- the ending is lawful in the call; want of memory always is
 abbrev pub IsLawful : Call → Ending → Type 0
 IsLawful call (Successful unwind rounds formula log) = IsFromFile call (Successful unwind rounds formula log)
 IsLawful call (Failed kind line schedule) = IsFromFile call (Failed kind line schedule)
-IsLawful call (NotAToken line place) = IsFromFile call (NotAToken line place)
-IsLawful call (NotAProgram line token) = IsFromFile call (NotAProgram line token)
-IsLawful call (Faulty line rule) = IsFromFile call (Faulty line rule)
-IsLawful call (ManySlots slots) = IsFromFile call (ManySlots slots)
-IsLawful call (HighCost cost) = IsFromFile call (HighCost cost)
+IsLawful call (NotAToken line place) = IsFromSource call (NotAToken line place)
+IsLawful call (NotAProgram line token) = IsFromSource call (NotAProgram line token)
+IsLawful call (Faulty line rule) = IsFromSource call (Faulty line rule)
+IsLawful call (ManySlots slots) = IsFromSource call (ManySlots slots)
+IsLawful call (HighCost cost) = IsFromSource call (HighCost cost)
 IsLawful call (Recheck answer) = (bytes : List ℕ) × IsProofSource call bytes × IsRechecked bytes answer
+IsLawful call (Replay answer) = IsReplayed call answer
 IsLawful call (NotBuilt line) = IsFromFile call (NotBuilt line) ⊎ (NamesNoFile call × (line ≡ 0))
 IsLawful call FileTooLong = IsFileTooLong call
+IsLawful call ScheduleTooLong = IsScheduleTooLong call
 IsLawful call ProofTooLong = IsProofTooLong call
-IsLawful call (ReadFault name) = IsReadFault call name
+IsLawful call (BadSchedule line) = IsBadSchedule call line
+IsLawful call (ReadFault name) = IsReadFault call name ⊎ IsScheduleFault call name
 IsLawful call OutOfMemory = ⊤

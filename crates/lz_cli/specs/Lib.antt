@@ -3,6 +3,7 @@ pub mod Limits
 pub mod Report
 pub mod Source
 pub mod Admission
+pub mod Admit
 pub mod Ending
 pub mod Command
 pub mod Exactness

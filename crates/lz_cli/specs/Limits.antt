@@ -12,6 +12,18 @@ pub record Bounds : Type 0 where
 abbrev pub defaults : Bounds
 defaults = record { unwind = 2; rounds = 2; conflicts = 100000 }
 
+-- with so many turns and rounds
+abbrev pub within : ℕ → ℕ → Bounds
+within turns rounds = record { unwind = turns; rounds = rounds; conflicts = 100000 }
+
+-- where a word says how many turns
+abbrev pub checking : ℕ → Bounds
+checking turns = within turns 2
+
+-- those of a replay, whose cost is taken with one round
+abbrev pub replaying : ℕ → Bounds
+replaying turns = within turns 1
+
 -- the most threads that a program may create within its bounds
 abbrev pub slot_limit : ℕ
 slot_limit = 16
@@ -19,3 +31,7 @@ slot_limit = 16
 -- the most that a program may cost within its bounds
 abbrev pub cost_limit : ℕ
 cost_limit = 10000000
+
+-- the most bytes that a schedule file may have
+abbrev pub schedule_limit : ℕ
+schedule_limit = 268435456

@@ -6,12 +6,14 @@ use Rattle.lz_base.specs.declared.word.BreakKind.{BreakKind}
 use Rattle.lz_base.specs.declared.word.BreakKind.TheVariants.{Assert, Bounds, DivZero, Unlock, Wait, Join, Reached}
 use Rattle.lz_model.specs.declared.schedule.Step.{Step}
 use Rattle.lz_model.specs.Rounds.{rounds_of, threads_of}
+use Rattle.lz_replay.specs.declared.answer.Replayed.{Replayed}
+use Rattle.lz_replay.specs.declared.answer.Replayed.TheVariants.{Broke, Holds, NotARun}
 use Rattle.lz_cli.specs.declared.ending.Ending.{Ending}
-use Rattle.lz_cli.specs.declared.ending.Ending.TheVariants.{Successful, Failed, NotAToken, NotAProgram, Faulty, ManySlots, HighCost, Recheck, NotBuilt, FileTooLong, ProofTooLong, ReadFault, OutOfMemory}
+use Rattle.lz_cli.specs.declared.ending.Ending.TheVariants.{Successful, Failed, NotAToken, NotAProgram, Faulty, ManySlots, HighCost, Recheck, Replay, NotBuilt, FileTooLong, ScheduleTooLong, ProofTooLong, BadSchedule, ReadFault, OutOfMemory}
 use Rattle.lz_cli.specs.declared.evidence.Evidence.{Evidence}
 use Rattle.lz_cli.specs.declared.evidence.Evidence.TheVariants.{Nothing, Proof}
 use Rattle.lz_base.specs.Limits.{file_limit}
-use Rattle.lz_cli.specs.Limits.{slot_limit, cost_limit}
+use Rattle.lz_cli.specs.Limits.{slot_limit, cost_limit, schedule_limit}
 use Rattle.lz_cli.specs.Recheck.{proof_limit, recheck_line, recheck_status}
 
 -- the word for what breaks
@@ -33,6 +35,19 @@ abbrev pub success_line : ℕ → ℕ → List ℕ
 success_line unwind rounds =
     codes "SUCCESSFUL unwind " ++ decimal unwind ++ codes " rounds " ++ decimal rounds ++ codes "\n"
 
+-- the line of a replay's answer
+abbrev pub replay_line : Replayed → List ℕ
+replay_line (Broke kind line events) =
+    codes "BROKEN check " ++ kind_word kind ++ codes " line " ++ decimal line ++ codes " events " ++ decimal events ++ codes "\n"
+replay_line (Holds events) = codes "HOLDS events " ++ decimal events ++ codes "\n"
+replay_line (NotARun index) = codes "NOTARUN index " ++ decimal index ++ codes "\n"
+
+-- its status
+abbrev pub replay_status : Replayed → ℕ
+replay_status (Broke kind line events) = 1
+replay_status (Holds events) = 0
+replay_status (NotARun index) = 9
+
 -- each line ends with a newline
 abbrev pub report : Ending → List ℕ
 report (Successful unwind rounds formula log) = success_line unwind rounds
@@ -45,9 +60,12 @@ report (Faulty line rule) = codes "SOURCE line " ++ decimal line ++ codes " rule
 report (ManySlots slots) = codes "LIMIT slots " ++ decimal slots ++ codes " over " ++ decimal slot_limit ++ codes "\n"
 report (HighCost cost) = codes "LIMIT cost " ++ decimal cost ++ codes " over " ++ decimal cost_limit ++ codes "\n"
 report (Recheck answer) = recheck_line answer
+report (Replay answer) = replay_line answer
 report (NotBuilt line) = codes "NOTBUILT line " ++ decimal line ++ codes "\n"
 report FileTooLong = codes "LIMIT file over " ++ decimal file_limit ++ codes " bytes\n"
+report ScheduleTooLong = codes "LIMIT schedule over " ++ decimal schedule_limit ++ codes " bytes\n"
 report ProofTooLong = codes "LIMIT proof over " ++ decimal proof_limit ++ codes " bytes\n"
+report (BadSchedule line) = codes "TEXT line " ++ decimal line ++ codes "\n"
 report (ReadFault name) = codes "READ " ++ name ++ codes "\n"
 report OutOfMemory = codes "MEMORY\n"
 
@@ -61,9 +79,12 @@ status_of (Faulty line rule) = 4
 status_of (ManySlots slots) = 5
 status_of (HighCost cost) = 5
 status_of (Recheck answer) = recheck_status answer
+status_of (Replay answer) = replay_status answer
 status_of (NotBuilt line) = 12
 status_of FileTooLong = 5
+status_of ScheduleTooLong = 5
 status_of ProofTooLong = 5
+status_of (BadSchedule line) = 10
 status_of (ReadFault name) = 6
 status_of OutOfMemory = 8
 
@@ -77,9 +98,12 @@ evidence_of (Faulty line rule) = Nothing
 evidence_of (ManySlots slots) = Nothing
 evidence_of (HighCost cost) = Nothing
 evidence_of (Recheck answer) = Nothing
+evidence_of (Replay answer) = Nothing
 evidence_of (NotBuilt line) = Nothing
 evidence_of FileTooLong = Nothing
+evidence_of ScheduleTooLong = Nothing
 evidence_of ProofTooLong = Nothing
+evidence_of (BadSchedule line) = Nothing
 evidence_of (ReadFault name) = Nothing
 evidence_of OutOfMemory = Nothing
 
@@ -93,8 +117,11 @@ IsPrintable (Faulty line rule) = ⊤
 IsPrintable (ManySlots slots) = ⊤
 IsPrintable (HighCost cost) = ⊤
 IsPrintable (Recheck answer) = ⊤
+IsPrintable (Replay answer) = ⊤
 IsPrintable (NotBuilt line) = ⊤
 IsPrintable FileTooLong = ⊤
+IsPrintable ScheduleTooLong = ⊤
 IsPrintable ProofTooLong = ⊤
+IsPrintable (BadSchedule line) = ⊤
 IsPrintable (ReadFault name) = ⊤
 IsPrintable OutOfMemory = ⊤

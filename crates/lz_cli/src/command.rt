@@ -1,45 +1,41 @@
 //! The top call.
 
 ghost use Rattle.std.specs.Prelude.{◌≡◌, ◌≤◌, ℕ, List, length, IfOk};
-ghost use Rattle.lz_cli.specs.CommandLine.{IsFileName, IsNamed, IsProofName};
+ghost use Rattle.lz_cli.specs.CommandLine.{IsCheckName, IsNamed, IsProofName, IsReplayName};
 ghost use Rattle.lz_cli.specs.Report.{report, status_of, IsPrintable};
 ghost use Rattle.lz_base.specs.Limits.{file_limit};
-ghost use Rattle.lz_cli.specs.Limits.{defaults};
-ghost use Rattle.lz_cli.specs.Ending.{Call, call_of, IsVerdict, IsLawful};
-ghost use Rattle.lz_tree.specs.Tokens.{HasTokens};
-ghost use Rattle.lz_tree.specs.Trees.{translation_unit};
+ghost use Rattle.lz_cli.specs.Limits.{Bounds, checking, replaying};
+ghost use Rattle.lz_cli.specs.Ending.{Call, call_of, IsRunSource, IsVerdict, IsLawful};
+ghost use Rattle.lz_tree.specs.Trees.{TranslationUnit, translation_unit};
 ghost use Rattle.lz_tree.specs.ScopedTrees.{scoped_program};
 ghost use Rattle.lz_tree.specs.Calls.{IsCallOrder};
 ghost use Rattle.lz_tree.specs.FirstFormScopes.{program, IsWellFormed};
 ghost use Rattle.lz_cli.specs.Source.{HasTree, IsFirstForm};
-ghost use Rattle.lz_resolve.specs.ScopedPrograms.{scoped_of};
-ghost use Rattle.lz_cli.specs.Admission.{IsAccepted, IsAdmitted};
+ghost use Rattle.lz_cli.specs.Admission.{IsAdmitted};
+ghost use Rattle.lz_cli.specs.Admit.{IsRefusedBy, Admits};
 ghost use Rattle.lz_cli.specs.Command.{output_of, IsDeliveredOrCutOff, Answers};
 
-use crate::command_line::{Words, file_name, proof_name};
+use crate::admit::{Refusal, admit};
+use crate::command_line::{Words, check_name, proof_name, replay_names};
 use crate::decide::{Decided, decide};
 use crate::ending::Ending;
 use crate::evidence::Evidence;
-use crate::limits::{COST_LIMIT, DEFAULT_ROUNDS, DEFAULT_UNWIND, SLOT_LIMIT};
+use crate::limits::{DEFAULT_ROUNDS, REPLAY_ROUNDS, SCHEDULE_LIMIT};
 use crate::recheck::{PROOF_LIMIT, recheck};
 use crate::refutation::refutation;
+use crate::replaying::follow;
 use crate::report::{MEMORY_REPORT, print, status};
 use lz_base::{FILE_LIMIT, Memory, Name};
 use lz_form::first_form;
-use lz_lex::{LexError, lex};
 use lz_outside::{Failed, Folder, ReadError, Sink, read_all, write_all};
-use lz_parse::{ParseError, parse};
-use lz_scopes::TypeError;
-use lz_slots::{cost, slots};
 use lz_tree::first_form::Scoped as FirstForm;
-use lz_tree::{Program, Scoped, Tokens};
-use lz_types::check;
+use lz_tree::{Program, Scoped};
 use std::alloc::Global;
 
 /// How a call ended: the status that the program ends with, and what shows that the verdict is right.
 #[derive(Debug, Drop)]
 pub struct Ended {
-    /// 0, 1, 4, 5, 6, 8, 10, 11 or 12, as the report says, or 7 where the report could not be written whole.
+    /// 0, 1, 4, 5, 6, 8, 9, 10, 11 or 12, as the report says, or 7 where the report could not be written whole.
     pub status: u8,
     pub evidence: Evidence,
 }
@@ -47,8 +43,8 @@ pub struct Ended {
 /// The status of a call whose report could not be written whole.
 const CUT_OFF: u8 = 7;
 
-/// Reads the file that the words name, decides its program or rechecks its log, and writes the report, which is made whole
-/// before any of it is written. No told file changes.
+/// Reads the file that the words name, decides its program, runs it by a schedule or rechecks a log, and writes the report,
+/// which is made whole before any of it is written. No told file changes.
 pub fn run<F: Folder, O: Sink>(alloc: Global, words: &Words, folder: &mut F, out: &mut O) -> Ended
     // Some lawful ending is told; where the sink failed, some front of its report.
     ensures answers { Answers
@@ -79,15 +75,15 @@ fn conclude<F: Folder>(alloc: Global, words: &Words, folder: &mut F) -> Result<E
     ensures read_faults { F.read_faults folder.old ≤ F.read_faults folder.new }
     ensures same_writes { F.write_faults folder.new ≡ F.write_faults folder.old }
 {
-    match file_name(words) {
-        Some(name) => conclude_file(alloc, name, folder),
+    match check_name(words) {
+        Some((unwind, name)) => conclude_file(alloc, unwind, name, folder),
         None => conclude_other(alloc, words, folder),
     }
 }
 
-/// What a call comes to whose words name no source file.
+/// What a call comes to whose words name no file whose program is decided.
 fn conclude_other<F: Folder>(alloc: Global, words: &Words, folder: &mut F) -> Result<Ending, Memory>
-    requires { (name : List ℕ) → IsFileName words.now name → ⊥ }
+    requires { (turns : ℕ) (name : List ℕ) → IsCheckName words.now turns name → ⊥ }
     ensures lawful { IfOk result (IsLawful
         (call_of words.now (F.files folder.old) (F.read_faults folder.old) (F.read_faults folder.new))) }
     ensures printable { IfOk result IsPrintable }
@@ -98,6 +94,28 @@ fn conclude_other<F: Folder>(alloc: Global, words: &Words, folder: &mut F) -> Re
 {
     match proof_name(words) {
         Some(name) => conclude_proof(alloc, name, folder),
+        None => conclude_by_schedule(alloc, words, folder),
+    }
+}
+
+/// What a call comes to whose words name no proof file either.
+fn conclude_by_schedule<F: Folder>(
+    alloc: Global,
+    words: &Words,
+    folder: &mut F,
+) -> Result<Ending, Memory>
+    requires no_check { (turns : ℕ) (name : List ℕ) → IsCheckName words.now turns name → ⊥ }
+    requires no_proof { (name : List ℕ) → IsProofName words.now name → ⊥ }
+    ensures lawful { IfOk result (IsLawful
+        (call_of words.now (F.files folder.old) (F.read_faults folder.old) (F.read_faults folder.new))) }
+    ensures printable { IfOk result IsPrintable }
+    ensures not_read { ((name : List ℕ) → IsNamed words.now name → ⊥) → folder.new ≡ folder.old }
+    ensures keeps_files { F.files folder.new ≡ F.files folder.old }
+    ensures read_faults { F.read_faults folder.old ≤ F.read_faults folder.new }
+    ensures same_writes { F.write_faults folder.new ≡ F.write_faults folder.old }
+{
+    match replay_names(words) {
+        Some((unwind, schedule, name)) => conclude_replay(alloc, unwind, schedule, name, folder),
         None => Ok(Ending::NotBuilt { line: 0 }),
     }
 }
@@ -125,9 +143,15 @@ fn conclude_proof<F: Folder>(alloc: Global, name: &Name, folder: &mut F) -> Resu
     }
 }
 
-/// What the file of this name comes to.
-fn conclude_file<F: Folder>(alloc: Global, name: &Name, folder: &mut F) -> Result<Ending, Memory>
-    ensures lawful { IfOk result (λ ending. (words : List (List ℕ)) → IsFileName words name.now → IsLawful
+/// What the file of this name comes to, whose program is run by the schedule of that name.
+fn conclude_replay<F: Folder>(
+    alloc: Global,
+    unwind: u32,
+    schedule: &Name,
+    name: &Name,
+    folder: &mut F,
+) -> Result<Ending, Memory>
+    ensures lawful { IfOk result (λ ending. (words : List (List ℕ)) → IsReplayName words unwind schedule.now name.now → IsLawful
         (call_of words (F.files folder.old) (F.read_faults folder.old) (F.read_faults folder.new)) ending) }
     ensures printable { IfOk result IsPrintable }
     ensures keeps_files { F.files folder.new ≡ F.files folder.old }
@@ -135,7 +159,109 @@ fn conclude_file<F: Folder>(alloc: Global, name: &Name, folder: &mut F) -> Resul
     ensures same_writes { F.write_faults folder.new ≡ F.write_faults folder.old }
 {
     match read_all(alloc, folder, name.text(), FILE_LIMIT) {
-        Ok(bytes) => judge(alloc, bytes.items()),
+        Ok(bytes) => replay_source(alloc, unwind, schedule, bytes.items(), folder),
+        Err(ReadError::Fault) => {
+            let name = Name::new(alloc, name.text())?;
+            Ok(Ending::ReadFault { name })
+        }
+        Err(ReadError::TooLong) => Ok(Ending::FileTooLong),
+        Err(ReadError::Memory) => Err(Memory),
+    }
+}
+
+/// What the bytes of a file come to, whose program is run by the schedule of that name.
+fn replay_source<F: Folder>(
+    alloc: Global,
+    unwind: u32,
+    schedule: &Name,
+    bytes: &[u8],
+    folder: &mut F,
+) -> Result<Ending, Memory>
+    requires { length bytes.now ≤ file_limit }
+    ensures lawful { IfOk result (λ ending. (words : List (List ℕ))
+        → IsRunSource (call_of words (F.files folder.old) (F.read_faults folder.old) (F.read_faults folder.new)) unwind schedule.now bytes.now
+        → IsLawful (call_of words (F.files folder.old) (F.read_faults folder.old) (F.read_faults folder.new)) ending) }
+    ensures printable { IfOk result IsPrintable }
+    ensures keeps_files { F.files folder.new ≡ F.files folder.old }
+    ensures read_faults { F.read_faults folder.old ≤ F.read_faults folder.new }
+    ensures same_writes { F.write_faults folder.new ≡ F.write_faults folder.old }
+{
+    match admit(alloc, bytes, unwind, REPLAY_ROUNDS) {
+        Ok(checked) => replay_program(
+            alloc,
+            unwind,
+            schedule,
+            checked.scoped(),
+            checked.order(),
+            folder,
+        ),
+        Err(refusal) => refuse(refusal),
+    }
+}
+
+/// What the schedule of this name comes to on a program that is run by it, with an order of the program's calls.
+fn replay_program<F: Folder>(
+    alloc: Global,
+    unwind: u32,
+    schedule: &Name,
+    scoped: &Scoped,
+    order: &[u32],
+    folder: &mut F,
+) -> Result<Ending, Memory>
+    requires { IsCallOrder (scoped_program scoped.now).functions order.now }
+    ensures lawful { IfOk result (λ ending. (words : List (List ℕ)) (bytes : List ℕ) (tree : TranslationUnit)
+        → IsRunSource (call_of words (F.files folder.old) (F.read_faults folder.old) (F.read_faults folder.new)) unwind schedule.now bytes
+        → Admits unwind REPLAY_ROUNDS bytes tree (scoped_program scoped.now) order.now
+        → IsLawful (call_of words (F.files folder.old) (F.read_faults folder.old) (F.read_faults folder.new)) ending) }
+    ensures printable { IfOk result IsPrintable }
+    ensures keeps_files { F.files folder.new ≡ F.files folder.old }
+    ensures read_faults { F.read_faults folder.old ≤ F.read_faults folder.new }
+    ensures same_writes { F.write_faults folder.new ≡ F.write_faults folder.old }
+{
+    match read_all(alloc, folder, schedule.text(), SCHEDULE_LIMIT) {
+        Ok(text) => follow(alloc, scoped, order, unwind, text.items()),
+        Err(ReadError::Fault) => {
+            let name = Name::new(alloc, schedule.text())?;
+            Ok(Ending::ReadFault { name })
+        }
+        Err(ReadError::TooLong) => Ok(Ending::ScheduleTooLong),
+        Err(ReadError::Memory) => Err(Memory),
+    }
+}
+
+/// The ending that tells why a program is neither decided nor run.
+fn refuse(refusal: Refusal) -> Result<Ending, Memory>
+    ensures verdict { IfOk result (λ ending. (bounds : Bounds) (bytes : List ℕ) → IsRefusedBy bounds bytes refusal → IsVerdict bounds bytes ending) }
+    ensures lawful { IfOk result (λ ending. (call : Call) (turns : ℕ) (schedule bytes : List ℕ) → IsRunSource call turns schedule bytes
+        → IsRefusedBy (replaying turns) bytes refusal → IsLawful call ending) }
+    ensures printable { IfOk result IsPrintable }
+{
+    match refusal {
+        Refusal::NotAToken { line, place } => Ok(Ending::NotAToken { line, place }),
+        Refusal::NotAProgram { line, token } => Ok(Ending::NotAProgram { line, token }),
+        Refusal::Faulty { line, rule } => Ok(Ending::Faulty { line, rule }),
+        Refusal::ManySlots { slots } => Ok(Ending::ManySlots { slots }),
+        Refusal::HighCost { cost } => Ok(Ending::HighCost { cost }),
+        Refusal::OutOfMemory => Err(Memory),
+    }
+}
+
+/// What the file of this name comes to, whose program is decided.
+fn conclude_file<F: Folder>(
+    alloc: Global,
+    unwind: u32,
+    name: &Name,
+    folder: &mut F,
+) -> Result<Ending, Memory>
+    ensures lawful { IfOk result (λ ending. (words : List (List ℕ)) → IsCheckName words unwind name.now → IsLawful
+        (call_of words (F.files folder.old) (F.read_faults folder.old) (F.read_faults folder.new)) ending) }
+    ensures printable { IfOk result IsPrintable }
+    ensures keeps_files { F.files folder.new ≡ F.files folder.old }
+    ensures read_faults { F.read_faults folder.old ≤ F.read_faults folder.new }
+    ensures same_writes { F.write_faults folder.new ≡ F.write_faults folder.old }
+{
+    match read_all(alloc, folder, name.text(), FILE_LIMIT) {
+        Ok(bytes) => judge(alloc, bytes.items(), unwind),
         Err(ReadError::Fault) => {
             let name = Name::new(alloc, name.text())?;
             Ok(Ending::ReadFault { name })
@@ -146,87 +272,39 @@ fn conclude_file<F: Folder>(alloc: Global, name: &Name, folder: &mut F) -> Resul
 }
 
 /// The verdict on the bytes of a file.
-fn judge(alloc: Global, bytes: &[u8]) -> Result<Ending, Memory>
+fn judge(alloc: Global, bytes: &[u8], unwind: u32) -> Result<Ending, Memory>
     requires { length bytes.now ≤ file_limit }
-    ensures verdict { IfOk result (IsVerdict defaults bytes.now) }
+    ensures verdict { IfOk result (IsVerdict (checking unwind) bytes.now) }
     ensures printable { IfOk result IsPrintable }
 {
-    match lex(alloc, bytes) {
-        Ok(tokens) => judge_tokens(alloc, &tokens),
-        Err(LexError::Bad { place, line }) => Ok(Ending::NotAToken { line, place }),
-        Err(LexError::Memory) => Err(Memory),
+    match admit(alloc, bytes, unwind, DEFAULT_ROUNDS) {
+        Ok(checked) => judge_admitted(alloc, checked.program(), unwind),
+        Err(refusal) => refuse(refusal),
     }
-}
-
-/// The verdict on the tokens of a file.
-fn judge_tokens(alloc: Global, tokens: &Tokens) -> Result<Ending, Memory>
-    ensures verdict { IfOk result (λ ending. (bytes : List ℕ) → HasTokens bytes tokens.now → IsVerdict defaults bytes ending) }
-    ensures printable { IfOk result IsPrintable }
-{
-    match parse(alloc, tokens) {
-        Ok(program) => judge_program(alloc, program),
-        Err(ParseError::NotAProgram { token, line }) => Ok(Ending::NotAProgram { line, token }),
-        Err(ParseError::Memory) => Err(Memory),
-    }
-}
-
-/// The verdict on the program of a file.
-fn judge_program(alloc: Global, program: Program) -> Result<Ending, Memory>
-    ensures verdict { IfOk result (λ ending. (bytes : List ℕ) → HasTree bytes (translation_unit program) → IsVerdict defaults bytes ending) }
-    ensures printable { IfOk result IsPrintable }
-{
-    match check(alloc, program) {
-        Ok(checked) => judge_checked(alloc, checked.program(), checked.scoped(), checked.order()),
-        Err(TypeError::Rule { line, number }) => Ok(Ending::Faulty { line, rule: number }),
-        Err(TypeError::Memory) => Err(Memory),
-    }
-}
-
-/// The verdict on a program that breaks no rule, with its scoped one and an order of its calls.
-fn judge_checked(
-    alloc: Global,
-    program: &Program,
-    scoped: &Scoped,
-    order: &[u32],
-) -> Result<Ending, Memory>
-    requires scoped { scoped_program scoped.now ≡ scoped_of (translation_unit program.now) }
-    requires order { IsCallOrder (scoped_program scoped.now).functions order.now }
-    ensures verdict { IfOk result (λ ending. (bytes : List ℕ) → IsAccepted bytes (translation_unit program.now) → IsVerdict defaults bytes ending) }
-    ensures printable { IfOk result IsPrintable }
-{
-    let slots = slots(alloc, scoped, order, DEFAULT_UNWIND)?;
-    if slots > SLOT_LIMIT {
-        return Ok(Ending::ManySlots { slots });
-    }
-    let cost = cost(alloc, scoped, order, DEFAULT_UNWIND, DEFAULT_ROUNDS)?;
-    if cost > COST_LIMIT {
-        return Ok(Ending::HighCost { cost });
-    }
-    judge_admitted(alloc, program)
 }
 
 /// The verdict on a program within the limits.
-fn judge_admitted(alloc: Global, program: &Program) -> Result<Ending, Memory>
-    ensures verdict { IfOk result (λ ending. (bytes : List ℕ) → IsAdmitted defaults bytes → HasTree bytes (translation_unit program.now) → IsVerdict defaults bytes ending) }
+fn judge_admitted(alloc: Global, program: &Program, unwind: u32) -> Result<Ending, Memory>
+    ensures verdict { IfOk result (λ ending. (bytes : List ℕ) → IsAdmitted (checking unwind) bytes → HasTree bytes (translation_unit program.now) → IsVerdict (checking unwind) bytes ending) }
     ensures printable { IfOk result IsPrintable }
 {
     match first_form(alloc, program)? {
-        Some(scoped) => judge_form(alloc, &scoped),
+        Some(scoped) => judge_form(alloc, &scoped, unwind),
         None => Ok(Ending::NotBuilt { line: 0 }),
     }
 }
 
 /// The verdict on a program of the first form.
-fn judge_form(alloc: Global, scoped: &FirstForm) -> Result<Ending, Memory>
+fn judge_form(alloc: Global, scoped: &FirstForm, unwind: u32) -> Result<Ending, Memory>
     requires { IsWellFormed (program scoped.now) }
-    ensures verdict { IfOk result (λ ending. (bytes : List ℕ) → IsAdmitted defaults bytes → IsFirstForm bytes (program scoped.now) → IsVerdict defaults bytes ending) }
+    ensures verdict { IfOk result (λ ending. (bytes : List ℕ) → IsAdmitted (checking unwind) bytes → IsFirstForm bytes (program scoped.now) → IsVerdict (checking unwind) bytes ending) }
     ensures printable { IfOk result IsPrintable }
 {
     match decide(alloc, scoped)? {
         Decided::Holds => {
             let (formula, log) = refutation(alloc)?;
             Ok(Ending::Successful {
-                unwind: DEFAULT_UNWIND,
+                unwind,
                 rounds: DEFAULT_ROUNDS,
                 formula,
                 log,

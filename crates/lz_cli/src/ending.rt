@@ -4,6 +4,7 @@ use lz_base::{BreakKind, Name};
 use lz_cnf::Cnf;
 use lz_log::Log;
 use lz_model::Schedule;
+use lz_replay::Replayed;
 
 /// How a call ends, with what its report tells and the evidence that goes with it.
 #[derive(Debug, Drop)]
@@ -49,14 +50,24 @@ pub enum Ending {
     Recheck {
         answer: Rechecked,
     },
+    /// The program of the file was run by a schedule.
+    Replay {
+        answer: Replayed,
+    },
     /// The file, or the words, have a form that is not built.
     NotBuilt {
         line: u32,
     },
     /// The file is longer than the limit.
     FileTooLong,
+    /// The schedule file is longer than the limit.
+    ScheduleTooLong,
     /// The proof file is longer than the limit.
     ProofTooLong,
+    /// This line of the schedule file, counted from 1, is the first that says nothing.
+    BadSchedule {
+        line: u32,
+    },
     /// The file of this name can't be read.
     ReadFault {
         name: Name,
@@ -91,9 +102,12 @@ impl Ending {
             Ending::ManySlots { slots: _ } => Evidence::Nothing,
             Ending::HighCost { cost: _ } => Evidence::Nothing,
             Ending::Recheck { answer: _ } => Evidence::Nothing,
+            Ending::Replay { answer: _ } => Evidence::Nothing,
             Ending::NotBuilt { line: _ } => Evidence::Nothing,
             Ending::FileTooLong => Evidence::Nothing,
+            Ending::ScheduleTooLong => Evidence::Nothing,
             Ending::ProofTooLong => Evidence::Nothing,
+            Ending::BadSchedule { line: _ } => Evidence::Nothing,
             Ending::ReadFault { name: _ } => Evidence::Nothing,
             Ending::OutOfMemory => Evidence::Nothing,
         }

@@ -8,17 +8,23 @@ ghost use Rattle.lz_tree.specs.Tokens.{HasTokens};
 ghost use Rattle.lz_tree.specs.Trees.{TranslationUnit};
 ghost use Rattle.lz_tree.specs.FirstFormScopes.{Program};
 ghost use Rattle.lz_parse.specs.Programs.{IsProgram, IsRefusedAt};
+ghost use Rattle.lz_model.specs.declared.schedule.Step.{Step};
+ghost use Rattle.lz_model.specs.ScheduleText.{IsScheduleText, IsNoSchedule};
+ghost use Rattle.lz_resolve.specs.ScopedPrograms.{scoped_of};
+ghost use Rattle.lz_replay.specs.declared.answer.Replayed.{Replayed};
+ghost use Rattle.lz_replay.specs.Replays.{Says};
 ghost use Rattle.lz_cli.specs.declared.ending.Ending.{Ending};
-ghost use Rattle.lz_cli.specs.CommandLine.{IsFileName, IsProofName};
+ghost use Rattle.lz_cli.specs.CommandLine.{IsFileName, IsProofName, IsSourceName};
 ghost use Rattle.lz_base.specs.Limits.{file_limit};
 ghost use Rattle.lz_cli.specs.Source.{HasNoTokens, IsFirstForm, IsOtherForm};
-ghost use Rattle.lz_cli.specs.Limits.{defaults};
+ghost use Rattle.lz_cli.specs.Limits.{Bounds, defaults, checking, replaying, schedule_limit};
 ghost use Rattle.lz_cli.specs.Admission.{IsFaulty, HasManySlots, HasHighCost, IsAdmitted};
 ghost use Rattle.lz_cli.specs.Ending.{Call, IsLawful, NamesNoFile};
 ghost use Rattle.lz_cli.specs.Recheck.{proof_limit};
-ghost use Rattle.lz_cli.specs.Exactness.{IsToldFile, IsToldProof, IsAnswer, IsDecided, IsRefusal, IsEither};
+ghost use Rattle.lz_cli.specs.Exactness.{IsToldFile, IsToldCheck, IsToldRun, IsToldSource, IsToldReplay, IsToldProof, IsAnswer, IsDecided, IsDecidedWithin, IsRefusal, IsEither, IsRunAnswer};
 
 use lz_parse::one_program;
+use lz_replay::{one_answer, one_schedule};
 
 /// What a lawful ending is, in every call where the folder tells the named file and no read failed, and where
 /// no file is named or the told files lack it.
@@ -70,6 +76,64 @@ pub fn endings_are_exact()
     // Words that name no file are not built.
     ensures no_file { (call : Call) (ending : Ending) → NamesNoFile call
         → IsLawful call ending → IsEither (Ending.NotBuilt 0) ending }
+    // Of a file whose program is decided with another number of turns the same is true within it: one of the first form is decided,
+    ensures decided_within { (call : Call) (turns : ℕ) (content : List ℕ) (p : Program) (ending : Ending) → IsToldCheck call turns content
+        → length content ≤ file_limit → IsAdmitted (checking turns) content → IsFirstForm content p → IsLawful call ending
+        → IsDecidedWithin (checking turns) p ending }
+    // and one of another form is not built.
+    ensures not_built_within { (call : Call) (turns : ℕ) (content : List ℕ) (ending : Ending) → IsToldCheck call turns content
+        → length content ≤ file_limit → IsAdmitted (checking turns) content → IsOtherForm content → IsLawful call ending
+        → IsEither (Ending.NotBuilt 0) ending }
+    // Of any source file, whose program is decided or run, it is told as above that a rule is broken,
+    ensures source_faulty { (call : Call) (bounds : Bounds) (content : List ℕ) (line rule : ℕ) (ending : Ending)
+        → IsToldSource call bounds content → length content ≤ file_limit → IsFaulty content line rule → IsLawful call ending
+        → IsEither (Ending.Faulty line rule) ending }
+    // that there are too many slots,
+    ensures source_many_slots { (call : Call) (bounds : Bounds) (content : List ℕ) (slots : ℕ) (ending : Ending)
+        → IsToldSource call bounds content → length content ≤ file_limit → HasManySlots bounds content slots → IsLawful call ending
+        → IsEither (Ending.ManySlots slots) ending }
+    // that the cost is too high,
+    ensures source_high_cost { (call : Call) (bounds : Bounds) (content : List ℕ) (cost : ℕ) (ending : Ending)
+        → IsToldSource call bounds content → length content ≤ file_limit → HasHighCost bounds content cost → IsLawful call ending
+        → IsEither (Ending.HighCost cost) ending }
+    // that there is no cut,
+    ensures source_not_a_token { (call : Call) (bounds : Bounds) (content : List ℕ) (line place : ℕ) (ending : Ending)
+        → IsToldSource call bounds content → length content ≤ file_limit → HasNoTokens content line place → IsLawful call ending
+        → IsEither (Ending.NotAToken line place) ending }
+    // that no tree spells the tokens,
+    ensures source_not_a_program { (call : Call) (bounds : Bounds) (content : List ℕ) (tokens : Tokens) (ending : Ending)
+        → IsToldSource call bounds content → length content ≤ file_limit → HasTokens content tokens
+        → ((u : TranslationUnit) → IsProgram tokens u → ⊥) → IsLawful call ending → IsRefusal tokens ending }
+    // that it is too long,
+    ensures source_too_long { (call : Call) (bounds : Bounds) (content : List ℕ) (ending : Ending) → IsToldSource call bounds content
+        → file_limit < length content → IsLawful call ending → IsEither Ending.FileTooLong ending }
+    // and that the told files lack it.
+    ensures source_missing { (call : Call) (name : List ℕ) (ending : Ending) → IsSourceName call.words name
+        → Lacks call.files name → IsLawful call ending → IsEither (Ending.ReadFault name) ending }
+    // A program that breaks no rule and is within the limits is run by a schedule that is told, and the answer is right;
+    ensures run_answered { (call : Call) (turns : ℕ) (content text : List ℕ) (ending : Ending) → IsToldReplay call turns content text
+        → length content ≤ file_limit → length text ≤ schedule_limit → (admitted : IsAdmitted (replaying turns) content)
+        → IsLawful call ending → IsRunAnswer (scoped_of admitted.tree) turns text ending }
+    // it is one: of a schedule with a reading the one right answer,
+    ensures replayed { (call : Call) (turns : ℕ) (content text : List ℕ) (steps : List Step) (answer : Replayed) (ending : Ending)
+        → IsToldReplay call turns content text → length content ≤ file_limit → length text ≤ schedule_limit
+        → (admitted : IsAdmitted (replaying turns) content) → IsScheduleText text steps
+        → Says (scoped_of admitted.tree) turns steps answer → IsLawful call ending → IsEither (Ending.Replay answer) ending }
+    // of a schedule without a reading the first line that has none,
+    ensures bad_schedule { (call : Call) (turns : ℕ) (content text : List ℕ) (line : ℕ) (ending : Ending)
+        → IsToldReplay call turns content text → length content ≤ file_limit → length text ≤ schedule_limit
+        → IsAdmitted (replaying turns) content → IsNoSchedule text line → IsLawful call ending
+        → IsEither (Ending.BadSchedule line) ending }
+    // of a longer one that it is too long,
+    ensures schedule_too_long { (call : Call) (turns : ℕ) (content text : List ℕ) (ending : Ending) → IsToldReplay call turns content text
+        → length content ≤ file_limit → schedule_limit < length text → IsAdmitted (replaying turns) content → IsLawful call ending
+        → IsEither Ending.ScheduleTooLong ending }
+    // and of one that the told files lack that it can't be read.
+    ensures missing_schedule { (call : Call) (turns : ℕ) (schedule content : List ℕ) (ending : Ending)
+        → IsToldRun call turns schedule content → length content ≤ file_limit → IsAdmitted (replaying turns) content
+        → Lacks call.files schedule → IsLawful call ending → IsEither (Ending.ReadFault schedule) ending }
 {
     one_program();
+    one_schedule();
+    one_answer();
 }

@@ -1,6 +1,7 @@
 //! The command: it reads a file, decides its program and prints the verdict.
 #![tactic(auto)]
 
+mod admit;
 mod command;
 mod command_line;
 mod decide;
@@ -10,6 +11,7 @@ mod exactness;
 mod limits;
 mod recheck;
 mod refutation;
+mod replaying;
 mod report;
 
 pub use command::{Ended, end_out_of_memory, run};

@@ -11,3 +11,9 @@ pub const SLOT_LIMIT: u64 = 16;
 
 /// The most that a program may cost within its bounds.
 pub const COST_LIMIT: u64 = 10_000_000;
+
+/// The rounds with which the cost of a program is taken that is run by a schedule.
+pub const REPLAY_ROUNDS: u32 = 1;
+
+/// The most bytes that a schedule file may have.
+pub const SCHEDULE_LIMIT: u64 = 268_435_456;

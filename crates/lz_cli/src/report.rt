@@ -6,13 +6,15 @@ ghost use Rattle.std.specs.List.{flat_map};
 ghost use Rattle.lz_model.specs.Rounds.{rounds_of, threads_of};
 ghost use Rattle.lz_cli.specs.Recheck as recheck;
 ghost use Rattle.lz_cli.specs.Recheck.{recheck_line};
-ghost use Rattle.lz_cli.specs.Report.{report, success_line, kind_word, step_line, status_of, IsPrintable};
+ghost use Rattle.lz_cli.specs.Report as spec;
+ghost use Rattle.lz_cli.specs.Report.{report, success_line, kind_word, step_line, replay_line, status_of, IsPrintable};
 
 use crate::ending::Ending;
-use crate::limits::{COST_LIMIT, SLOT_LIMIT};
+use crate::limits::{COST_LIMIT, SCHEDULE_LIMIT, SLOT_LIMIT};
 use crate::recheck::{PROOF_LIMIT, Rechecked};
 use lz_base::{BreakKind, Bytes, FILE_LIMIT, Memory, Name};
 use lz_model::{Schedule, Step, rounds};
+use lz_replay::Replayed;
 use std::alloc::Global;
 
 /// The report of an ending, to the byte: each line with a newline at its end.
@@ -38,9 +40,12 @@ pub fn print(alloc: Global, ending: &Ending) -> Result<Bytes, Memory>
         Ending::ManySlots { slots } => over(alloc, b"LIMIT slots ", *slots, SLOT_LIMIT),
         Ending::HighCost { cost } => over(alloc, b"LIMIT cost ", *cost, COST_LIMIT),
         Ending::Recheck { answer } => rechecked(alloc, *answer),
+        Ending::Replay { answer } => replayed(alloc, *answer),
         Ending::NotBuilt { line } => not_built(alloc, *line),
         Ending::FileTooLong => file_too_long(alloc),
+        Ending::ScheduleTooLong => schedule_too_long(alloc),
         Ending::ProofTooLong => proof_too_long(alloc),
+        Ending::BadSchedule { line } => one_number(alloc, b"TEXT line ", u64::from(*line)),
         Ending::ReadFault { name } => read_fault(alloc, name),
         Ending::OutOfMemory => out_of_memory(alloc),
     }
@@ -143,6 +148,16 @@ fn file_too_long(alloc: Global) -> Result<Bytes, Memory>
     Ok(text)
 }
 
+fn schedule_too_long(alloc: Global) -> Result<Bytes, Memory>
+    ensures { IfOk result (λ text. text ≡ report Ending.ScheduleTooLong) }
+{
+    let mut text = Bytes::new(alloc);
+    text.append(b"LIMIT schedule over ")?;
+    text.append_number(SCHEDULE_LIMIT)?;
+    text.append(b" bytes\n")?;
+    Ok(text)
+}
+
 fn proof_too_long(alloc: Global) -> Result<Bytes, Memory>
     ensures { IfOk result (λ text. text ≡ report Ending.ProofTooLong) }
 {
@@ -171,6 +186,30 @@ fn refuted(alloc: Global, clauses: u64, steps: u64) -> Result<Bytes, Memory>
     text.append_number(clauses)?;
     text.append(b" log ")?;
     text.append_number(steps)?;
+    text.append(b"\n")?;
+    Ok(text)
+}
+
+fn replayed(alloc: Global, answer: Replayed) -> Result<Bytes, Memory>
+    ensures { IfOk result (λ text. text ≡ replay_line answer) }
+{
+    match answer {
+        Replayed::Broke { kind, line, events } => broke(alloc, kind, line, events),
+        Replayed::Holds { events } => one_number(alloc, b"HOLDS events ", events),
+        Replayed::NotARun { index } => one_number(alloc, b"NOTARUN index ", index),
+    }
+}
+
+fn broke(alloc: Global, kind: BreakKind, line: u32, events: u64) -> Result<Bytes, Memory>
+    ensures { IfOk result (λ text. text ≡ replay_line (Replayed.Broke kind line events)) }
+{
+    let mut text = Bytes::new(alloc);
+    text.append(b"BROKEN check ")?;
+    text.append(word_of(kind))?;
+    text.append(b" line ")?;
+    text.append_number(u64::from(line))?;
+    text.append(b" events ")?;
+    text.append_number(events)?;
     text.append(b"\n")?;
     Ok(text)
 }
@@ -257,6 +296,21 @@ fn recheck_status(answer: Rechecked) -> u8
     }
 }
 
+/// The status of a replay's answer.
+fn replay_status(answer: Replayed) -> u8
+    ensures { result ≡ spec.replay_status answer }
+{
+    match answer {
+        Replayed::Broke {
+            kind: _,
+            line: _,
+            events: _,
+        } => 1,
+        Replayed::Holds { events: _ } => 0,
+        Replayed::NotARun { index: _ } => 9,
+    }
+}
+
 /// The status that the command ends with.
 pub fn status(ending: &Ending) -> u8
     ensures { result ≡ status_of ending.now }
@@ -279,9 +333,12 @@ pub fn status(ending: &Ending) -> u8
         Ending::ManySlots { slots: _ } => 5,
         Ending::HighCost { cost: _ } => 5,
         Ending::Recheck { answer } => recheck_status(*answer),
+        Ending::Replay { answer } => replay_status(*answer),
         Ending::NotBuilt { line: _ } => 12,
         Ending::FileTooLong => 5,
+        Ending::ScheduleTooLong => 5,
         Ending::ProofTooLong => 5,
+        Ending::BadSchedule { line: _ } => 10,
         Ending::ReadFault { name: _ } => 6,
         Ending::OutOfMemory => 8,
     }

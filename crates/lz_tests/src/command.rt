@@ -382,7 +382,7 @@ fn reports_of_files(rt: HostRuntime) -> Result<(), Fail> {
 /// Words that name a file and words that don't: the report, the status, and the reason of the row.
 #[test]
 fn reports_of_words(rt: HostRuntime) -> Result<(), Fail> {
-    let table: [(&[&str], &str, u8, &str); 8] = [
+    let table: [(&[&str], &str, u8, &str); 12] = [
         (&["no.c"], "READ no.c\n", 6, "no file of the name"),
         (
             &[""],
@@ -392,7 +392,21 @@ fn reports_of_words(rt: HostRuntime) -> Result<(), Fail> {
         ),
         (&[], NOT_BUILT, 12, "no word"),
         (&["-"], NOT_BUILT, 12, "a word that begins with -"),
-        (&["--unwind", "3", "a.c"], NOT_BUILT, 12, "no options"),
+        (
+            &["--unwind", "3", "a.c"],
+            "SUCCESSFUL unwind 3 rounds 2\n",
+            0,
+            "three turns of a loop",
+        ),
+        (&["--unwind", "101", "a.c"], NOT_BUILT, 12, "too many turns"),
+        (&["--unwind", "0", "a.c"], NOT_BUILT, 12, "no turn"),
+        (&["--unwind", "3"], NOT_BUILT, 12, "no file"),
+        (
+            &["--unwind", "3", "-"],
+            NOT_BUILT,
+            12,
+            "a name that begins with -",
+        ),
         (&["a.c", "a.c"], NOT_BUILT, 12, "two words"),
         (
             &["--mode", "recheck", "no.c"],

@@ -9,4 +9,6 @@ mod command;
 #[cfg(test)]
 mod lazy;
 #[cfg(test)]
+mod replays;
+#[cfg(test)]
 mod rules;
