@@ -1,4 +1,4 @@
-//! Slots and cost within other bounds than those of the command, which has no options. Each layer is called by itself.
+//! Slots and cost within other bounds than the default ones. Each layer is called by itself.
 
 ghost use Rattle.lz_tree.specs.ScopedTrees.{scoped_program};
 ghost use Rattle.lz_tree.specs.Calls.{IsCallOrder};

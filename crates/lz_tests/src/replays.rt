@@ -3,20 +3,10 @@
 use crate::command::{AMPLE, Told};
 use lz_base::{Bytes, Memory, Name};
 use lz_cli::{Evidence, Words, run};
-use lz_outside::{Calls, File, Files, MemoryFolder, MemorySink};
+use lz_outside::{Calls, File, Files, MemoryFolder, MemorySink, write_file};
 use std::alloc::Global;
 use std::process::Abort;
 use std::test::Fail;
-
-/// A file of this name and text.
-fn file_of(alloc: Global, name: &str, text: &str) -> Result<File, Memory> {
-    let mut bytes = Bytes::new(alloc);
-    bytes.append(text.as_bytes())?;
-    Ok(File {
-        name: Name::new(alloc, name)?,
-        bytes,
-    })
-}
 
 /// Calls the command with these words, over a folder with the source `a.c` and the schedule `s`, whose listed calls fail.
 fn call(
@@ -30,10 +20,17 @@ fn call(
     for word in words {
         given.push(Name::new(alloc, word)?)?;
     }
+    let mut bytes = Bytes::new(alloc);
+    bytes.append(source.as_bytes())?;
     let mut files = Files::new(alloc);
-    files.push(file_of(alloc, "a.c", source)?)?;
-    files.push(file_of(alloc, "s", schedule)?)?;
-    let mut folder = MemoryFolder::new(alloc, files, 0, 0, fails)?;
+    files.push(File {
+        name: Name::new(alloc, "a.c")?,
+        bytes,
+    })?;
+    let mut folder = MemoryFolder::new(alloc, files, 1, AMPLE, fails)?;
+    if write_file(&mut folder, "s", schedule.as_bytes()).is_err() {
+        return Err(Memory);
+    }
     let mut sink = MemorySink::new(alloc, AMPLE, Calls::new(alloc))?;
     let ended = run(alloc, &given, &mut folder, &mut sink);
     let mut text = Bytes::new(alloc);
@@ -435,14 +432,14 @@ fn words_of_replays(rt: HostRuntime) -> Result<(), Fail> {
     Ok(())
 }
 
-/// A read of the schedule that fails in mid-stream is told by the schedule's name.
+/// A read of the schedule that fails is told by the schedule's name. The first two calls wrote it, the next two read the source.
 #[test]
 fn a_failing_read_of_a_schedule(rt: HostRuntime) -> Result<(), Fail> {
     let mut fails = Calls::new(rt.alloc());
-    fails.push(2).ok().ok_or("memory")?;
+    fails.push(4).ok().ok_or("memory")?;
     let told = call(rt.alloc(), &PLAIN, LOOP, "step 0 0\n", fails)
         .ok()
         .ok_or("memory")?;
-    compare(&rt, &told, "READ s\n", 6, "the third call of the folder");
+    compare(&rt, &told, "READ s\n", 6, "the fifth call of the folder");
     Ok(())
 }
