@@ -1,3 +1,4 @@
+pub mod Deciding
 pub mod Lines
 pub mod Reading
 pub mod Refusals

@@ -3,6 +3,7 @@
 
 mod answer;
 mod bytes;
+mod deciding;
 mod error;
 mod laws;
 mod print;
@@ -11,6 +12,7 @@ mod replaying;
 mod threads;
 
 pub use answer::Replayed;
+pub use deciding::{Decided, decide};
 pub use error::ScheduleError;
 pub use laws::{one_answer, one_schedule, printed_is_read};
 pub use print::print_schedule;
