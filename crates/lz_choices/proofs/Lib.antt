@@ -1,0 +1,4 @@
+pub mod CalmLemmas
+pub mod CalmCodeLemmas
+pub mod MainAloneLemmas
+pub mod NoChoiceLemmas
