@@ -1,3 +1,4 @@
+pub mod ChoicesLemmas
 pub mod CalmLemmas
 pub mod CalmCodeLemmas
 pub mod MainAloneLemmas
