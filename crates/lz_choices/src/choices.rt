@@ -110,7 +110,10 @@ fn in_expression(e: &ScopedExpr) -> Option<u32>
             first_of(place, in_expression(value))
         }
         ScopedExpr::Call {
-            line, callee, args, ..
+            line,
+            callee,
+            args,
+            ..
         } => {
             let called = in_callee(*callee, *line);
             first_of(called, in_expressions(args))
