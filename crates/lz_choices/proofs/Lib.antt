@@ -3,3 +3,4 @@ pub mod CalmLemmas
 pub mod CalmCodeLemmas
 pub mod MainAloneLemmas
 pub mod NoChoiceLemmas
+pub mod ChoicesWitnesses
