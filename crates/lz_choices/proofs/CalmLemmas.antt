@@ -50,10 +50,12 @@ behind_parked HoldOn = None
 behind_parked HoldOff = None
 behind_parked (End whole) = None
 
+-- the same, by whether it is parked
 abbrev pub behind : Bool → Action → Option Bool
 behind false action = behind_awake action
 behind true action = behind_parked action
 
+-- what follows, where something is known
 abbrev pub carries : Option Bool → (Bool → Option Bool) → Option Bool
 carries None next = None
 carries (Some parked) next = next parked
@@ -81,6 +83,7 @@ CalmEnd (done t v) at = at ≡ Some false
 CalmEnd (exits w) at = at ≡ Some false
 CalmEnd cut at = (parked : Bool) × (at ≡ Some parked)
 
+-- each way through the code is so
 pub record Calm {S A : Type 0} (code : Behaviour S A) : Type 0 where
   pub calm : (before : S) (acts : List Act) (outcome : Outcome S A) → code before acts outcome → CalmEnd outcome (walk false acts)
 

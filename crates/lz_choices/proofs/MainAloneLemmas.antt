@@ -17,11 +17,13 @@ use Rattle.lz_choices.proofs.CalmLemmas.{behind, carries, walk}
 
 -- ---- thread 0 is the only one
 
+-- one thread is there, which waits on a condition or not
 pub record Alone (parked : Bool) (s : State) : Type 0 where
   pub thread : ThreadState
   pub only : s.threads ≡ thread ∷ []
   pub waits : is_waiting thread ≡ parked
 
+-- so it is at the beginning
 pub alone_first : (cells : List ℕ) (mutexes : ℕ) → Alone false (opening cells mutexes)
 alone_first cells mutexes = record { thread = fresh; only = refl; waits = refl }
 
@@ -74,6 +76,7 @@ joins_nobody s (suc d) alone = by (eqb (suc d) 0) (is_made s (suc d)) (thread_at
     by true false joined e = refl
     by false false joined e = refl
 
+-- where the threads are as they were
 stays : (b : Bool) (s s1 s2 : State) → Alone b s → s1.threads ≡ s.threads → s1 ≡ s2 → Alone b s2
 stays b s s1 s2 a e k = subst (λ (x : State). Alone b x) k (record { thread = a.thread; only = e ∙ a.only; waits = a.waits })
 
@@ -92,6 +95,7 @@ still c t e = by (waits_on c t) (waits_on_none c t.waits e)
     by true k = absurd cc
     by false k = refl
 
+-- so it is behind each action that goes
 behind_alone : (s : State) (a : Action) (c : Bool) (s2 : State) → Alone false s → behind false a ≡ Some c → act_free s 0 a ≡ went s2 → Alone c s2
 behind_alone s Loc false s2 a e k = stays false s s s2 a refl (went_is s s2 k)
 behind_alone s (Input v) c s2 a e k = absurd cc
