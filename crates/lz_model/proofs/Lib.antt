@@ -1,6 +1,4 @@
 pub mod RoundsLemmas
-pub mod RunsLemmas
-pub mod ViolationLemmas
 pub mod StoreWitnesses
 pub mod FrontsLemmas
 pub mod RunFrontsLemmas

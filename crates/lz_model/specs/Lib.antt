@@ -1,9 +1,4 @@
-pub mod Traces
-pub mod ThreadTraces
-pub mod SharedState
-pub mod Runs
 pub mod Rounds
-pub mod Violation
 pub mod Actions
 pub mod Store
 pub mod Interleavings

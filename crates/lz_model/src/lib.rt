@@ -1,10 +1,6 @@
 //! What a program may do: actions and events, runs and rounds, and when a program is violated.
-//!
-//! The meaning of the whole language stands in `actions`; `action` has the actions of the first form, for as long
-//! as the command decides that form alone.
 #![tactic(auto)]
 
-pub mod action;
 mod actions;
 mod laws;
 mod schedule;

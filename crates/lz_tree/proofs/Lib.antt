@@ -2,4 +2,3 @@ pub mod TreesLemmas
 pub mod ScopedTreesLemmas
 pub mod HeightLemmas
 pub mod Witnesses
-pub mod FirstFormLemmas

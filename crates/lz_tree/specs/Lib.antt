@@ -1,5 +1,3 @@
-pub mod FirstFormScopes
-pub mod FirstForm
 pub mod Pieces
 pub mod Tokens
 pub mod Trees

@@ -3,7 +3,6 @@
 #![tactic(auto)]
 
 mod expression;
-pub mod first_form;
 mod measure;
 mod program;
 mod scoped;

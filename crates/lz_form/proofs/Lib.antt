@@ -1,5 +1,0 @@
-mod AssertionLemmas
-mod ErrorLemmas
-mod StatementsLemmas
-mod SumLemmas
-mod ProgramLemmas
