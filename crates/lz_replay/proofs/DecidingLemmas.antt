@@ -1,6 +1,6 @@
 -- What a program without a choice comes to where `main` is let go on alone.
-use Rattle.std.proofs.Common.{◌≡◌, ℕ, zero, suc, ◌+◌, ◌-◌, ◌≤◌, ◌<◌, Bool, true, false, ltb, List, [], ◌∷◌, ◌++◌, length, replicate, None, refl, sym, ◌∙◌, ap, subst, arith}
-use Rattle.std.proofs.lemmas.List.{length-replicate, replicate_more, replicate-append-replicate}
+use Rattle.std.proofs.Common.{◌≡◌, ℕ, zero, suc, ◌+◌, ◌-◌, ◌≤◌, ◌<◌, Bool, true, false, ltb, List, [], ◌∷◌, ◌++◌, length, replicate, refl, sym, ◌∙◌, ap, subst, arith}
+use Rattle.std.proofs.lemmas.List.{replicate_more, replicate-append-replicate}
 use Rattle.std.proofs.lemmas.Bool.Decides.{nat_tests}
 use Rattle.lz_base.specs.declared.word.BreakKind.{BreakKind}
 use Rattle.lz_tree.specs.ScopedTrees.{ScopedProgram}
@@ -20,10 +20,9 @@ use Rattle.lz_machine.specs.Threads.{MayDo}
 use Rattle.lz_replay.specs.declared.threads.Held.{Held}
 use Rattle.lz_replay.specs.declared.replaying.Stepped.{Stepped}
 use Rattle.lz_replay.specs.declared.replaying.Stepped.TheVariants.{Went, Blocked, Broke}
-use Rattle.lz_replay.specs.declared.deciding.Decided.{Decided}
 use Rattle.lz_replay.specs.declared.deciding.Decided.TheVariants.{Holds, Broken}
 use Rattle.lz_replay.specs.Replays.{IsFollowed, IsHeld, IsBrokenAt}
-use Rattle.lz_replay.specs.Stands.{NoRun, Breaks}
+use Rattle.lz_replay.specs.Stands.{Breaks}
 use Rattle.lz_replay.specs.Taking.{thread_at}
 use Rattle.lz_replay.specs.Replaying.{IsReplay, HasStepped}
 use Rattle.lz_replay.specs.Deciding.{Decides}
@@ -32,7 +31,7 @@ use Rattle.lz_replay.proofs.RepliesLemmas.{held, broken_there, none_followed}
 
 -- ---- steps of `main`
 
-pub threads_alone : (k : ℕ) → threads_of (replicate k main_step) ≡ replicate k 0
+threads_alone : (k : ℕ) → threads_of (replicate k main_step) ≡ replicate k 0
 threads_alone zero = refl
 threads_alone (suc k) = ap (λ (threads : List ℕ). 0 ∷ threads) (threads_alone k)
 
@@ -124,6 +123,7 @@ module _ (p : ScopedProgram) (n : ℕ) where
 
     -- ---- what a step comes to
 
+    -- nothing more goes: no run breaks a check
     pub stops : (s after : State) (threads more : List Held) → IsReplay p n (replicate k main_step) s threads → (stepped : Stepped)
         → HasStepped p n (replicate k main_step ++ main_step ∷ []) stepped after more → stepped ≡ Blocked → Decides p n Holds
     stops s after threads more is stepped h e =
@@ -131,12 +131,14 @@ module _ (p : ScopedProgram) (n : ℕ) where
         (none_followed p n (replicate k main_step ++ main_step ∷ [])
         (subst (λ (x : Stepped). HasStepped p n (replicate k main_step ++ main_step ∷ []) x after more) e h))
 
+  -- one step more
   pub goes : (k : ℕ) (s : State) (threads : List Held) (stepped : Stepped)
       → HasStepped p n (replicate k main_step ++ main_step ∷ []) stepped s threads → stepped ≡ Went → IsReplay p n (replicate (k + 1) main_step) s threads
   goes k s threads stepped h e =
       subst (λ (steps : List Step). IsReplay p n steps s threads) (replicate_more k main_step)
       (subst (λ (x : Stepped). HasStepped p n (replicate k main_step ++ main_step ∷ []) x s threads) e h)
 
+  -- a check breaks: a broken run takes the steps up to there, which take one round
   pub breaks : (k : ℕ) (s : State) (threads : List Held) (stepped : Stepped) (kind : BreakKind) (line : ℕ) (schedule : List Step)
       → HasStepped p n (replicate k main_step ++ main_step ∷ []) stepped s threads → stepped ≡ Broke kind line → schedule ≡ replicate (k + 1) main_step
       → Decides p n (Broken schedule kind line)
