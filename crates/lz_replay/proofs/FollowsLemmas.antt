@@ -84,7 +84,7 @@ module _ (p : ScopedProgram) (n : ℕ) where
   -- ---- one answer
 
   -- two runs that follow one schedule come to the same
-  one_end : (run other : List Event) (schedule : List Step) → IsRun (process_of p n) run → IsRun (process_of p n) other → Follows run schedule → Follows other schedule
+  pub one_end : (run other : List Event) (schedule : List Step) → IsRun (process_of p n) run → IsRun (process_of p n) other → Follows run schedule → Follows other schedule
       → course run (process_of p n).begins ≡ course other (process_of p n).begins
   one_end run other schedule is too follows follows_too =
       sym (bare_course (process_of p n) run is)

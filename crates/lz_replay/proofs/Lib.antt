@@ -7,3 +7,4 @@ pub mod RepliesLemmas
 pub mod AnswersLemmas
 pub mod TakingLemmas
 pub mod ReplayingLemmas
+pub mod DecidingLemmas

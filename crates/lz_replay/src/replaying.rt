@@ -143,7 +143,7 @@ fn next(
 }
 
 /// Takes one step of a schedule.
-fn go(
+pub fn go(
     alloc: Global,
     scoped: &Scoped,
     order: &[u32],
