@@ -10,6 +10,6 @@ ghost use Rattle.lz_choices.specs.MainAlone.{main_step};
 
 /// Every step of a run of a program without a choice is one of `main`, with the choice 0: no other thread is made, and
 /// nobody waits whom a signal could wake.
-pub fn no_choice_no_turn()
+pub fn only_main_steps()
     ensures { (p : ScopedProgram) (n : ℕ) (run : List Event) (schedule : List Step) → first_choice p ≡ None → IsRun (process_of p n) run → Follows run schedule → schedule ≡ replicate (length schedule) main_step }
 {}

@@ -5,4 +5,4 @@ mod choices;
 mod laws;
 
 pub use choices::first_choice;
-pub use laws::no_choice_no_turn;
+pub use laws::only_main_steps;

@@ -9,7 +9,7 @@ ghost use Rattle.lz_replay.specs.Deciding.{Decides};
 use crate::replaying::{Stepped, go};
 use crate::threads::{Held, start};
 use lz_base::{BreakKind, Memory};
-use lz_choices::no_choice_no_turn;
+use lz_choices::only_main_steps;
 use lz_model::{Schedule, Step};
 use lz_store::Store;
 use lz_tree::Scoped;
@@ -60,7 +60,7 @@ fn run_main(
     requires begins { IsReplay (scoped_program scoped.now) unwind [] store.old threads.old.items }
     ensures { IfOk result (Decides (scoped_program scoped.now) unwind) }
 {
-    no_choice_no_turn();
+    only_main_steps();
     for steps in 0..u64::MAX {
         let stepped = go(alloc, scoped, order, unwind, MAIN_STEP, store, threads)?;
         match stepped {

@@ -12,7 +12,7 @@ loop-steps-preserved c =
 pub returns-in-Blocked : goal.returns-in-Blocked
 returns-in-Blocked c =
     stops (scoped_program c.args.scoped.now) c.args.unwind
-    (record { are = λ run schedule is follows. c.no_choice_no_turn.ensures (scoped_program c.args.scoped.now) c.args.unwind run schedule c.requires.sequential is follows })
+    (record { are = λ run schedule is follows. c.only_main_steps.ensures (scoped_program c.args.scoped.now) c.args.unwind run schedule c.requires.sequential is follows })
     c.loop-steps.steps c.loop-steps.store c.go.new.store c.loop-steps.threads.items c.go.new.threads.items c.loop-steps.invariant c.in_ok-stepped.stepped
     (c.in_ok-stepped.ensures (replicate c.loop-steps.steps main_step) c.loop-steps.invariant) c.in-Blocked.is
 
