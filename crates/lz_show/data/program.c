@@ -17,7 +17,7 @@ int main(void) {
     for (;;) continue;
     for (x = 1; ; x = 2) do x -= 1; while (x > 0);
     if (x) if (n) ; else { int k[2] = { 1, 2 }; k[1] *= +x; } else x /= 1;
-    x %= ~n; x &= 1; x |= 2; x ^= 3; x <<= 4; x >>= 5; x = n = 'c';
+    x %= ~n; x &= 1; x |= 2; x ^= 3; x <<= 4; x >>= 5; x = n = 'c'; if (n) ++x;
     x = a[0] * n / 2 % 3 + 4 - 5 << 6 >> 7; x = 1 < 2 > 3 <= 4 >= 5 == 6 != 7;
     x = 1 & 2 ^ 3 | 4 && 5 || 6; x = (1 ? 2 : 3 ? 4 : 5);
     printf("text", (int) x, (unsigned long) (void *) 0, g(1, q1()));
