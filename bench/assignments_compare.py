@@ -1,10 +1,10 @@
 #!/usr/bin/env python3
-"""Compares the program with an evaluator of its own on random files of the first form and on near misses.
-Run it from the top of the repository: bench/first_form_compare.py [SEED [FILES]]
+"""Compares the program with an evaluator of its own on random files of assignments and assertions and on near misses.
+Run it from the top of the repository: bench/assignments_compare.py [SEED [FILES]]
 
 The evaluator below reads the text by a regular expression for each statement and knows nothing of the
-program's tokens, trees or traces. Of a text that is not of the form it expects one of the refusals: no token, no
-program, or a form that is not built."""
+program's tokens, trees or traces. Of a text that is not of the form it expects any other report: no token, no
+program, a broken rule, a choice, or a verdict."""
 
 import os
 import random
@@ -36,8 +36,10 @@ HEAD = re.compile(rf"{GAP}int{BLANK}+main{GAP}\({GAP}void{GAP}\){GAP}\{{")
 ASSIGNMENT = re.compile(rf"{GAP}({WORD}){GAP}=(?!=){GAP}({SUM}){GAP};")
 ASSERTION = re.compile(rf"{GAP}(assert){GAP}\({GAP}({SUM}){GAP}==(?!=){GAP}({SUM}){GAP}\){GAP};")
 END = re.compile(rf"{GAP}\}}{GAP}(?://[^\n]*)?\Z")
-REFUSALS = {
-    12: re.compile(r"NOTBUILT line 0\n\Z"),
+REPORTS = {
+    0: re.compile(r"SUCCESSFUL unwind 2 rounds 2\n\Z"),
+    1: re.compile(r"FAILED\ncheck (?:assert|divzero) line ([1-9][0-9]*)\nrounds 1\n(?:step 0 0\n)+\Z"),
+    12: re.compile(r"NOTBUILT line ([1-9][0-9]*)\n\Z"),
     4: re.compile(r"SOURCE line ([1-9][0-9]*) (?:byte (?:0|[1-9][0-9]*): not a token|token (?:0|[1-9][0-9]*): not a program|rule (?:[1-9]|1[0-9]|2[0-6]))\n\Z|SOURCE line (0) rule 15\n\Z"),
 }
 
@@ -116,10 +118,10 @@ def expected(text):
         return None
 
 
-def is_refusal(text, report, status):
-    """Whether the report is a refusal of its status, on a line that the text has."""
-    match = REFUSALS[status].match(report) if status in REFUSALS else None
-    return match is not None and (status == 12 or int(match.group(1) or 0) <= text.count("\n") + 1)
+def is_report(text, report, status):
+    """Whether the report is one of its status, on a line that the text has."""
+    match = REPORTS[status].match(report) if status in REPORTS else None
+    return match is not None and (status == 0 or int(match.group(1) or 0) <= text.count("\n") + 1)
 
 
 def gap(rng):
@@ -192,8 +194,8 @@ def main():
             done = subprocess.run([PROGRAM, path], stdout=subprocess.PIPE, check=False)
             got = (done.stdout.decode(), done.returncode)
             want = expected(text)
-            if got != want if want else not is_refusal(text, *got):
-                sys.exit(f"seed {seed}, file {number}:\n{text!r}\nwanted {want or 'a refusal'}\ngot    {got}")
+            if got != want if want else not is_report(text, *got):
+                sys.exit(f"seed {seed}, file {number}:\n{text!r}\nwanted {want or 'another report'}\ngot    {got}")
             counts[got[1]] = counts.get(got[1], 0) + 1
     print(f"{files} files agree; by status: {dict(sorted(counts.items()))}")
 

@@ -1,6 +1,6 @@
 #!/usr/bin/env python3
-"""Makes files of the first form of growing size, runs the program on each, and prints the size, the time and
-the peak memory of each run. Run it from the top of the repository: bench/first_form_growth.py"""
+"""Makes files of assignments of growing size, runs the program on each, and prints the size, the time and
+the peak memory of each run. Run it from the top of the repository: bench/assignments_growth.py"""
 
 import os
 import resource
