@@ -1,7 +1,17 @@
-// A program of the language that is not of the first form, since it has a return: the answer is NOTBUILT line 0.
-#include <assert.h>
+// Two choices: an input and a thread. The decision of such programs is not built, so the answer is NOTBUILT with the line of the first.
+#include <pthread.h>
+
+int seed;
+
+void *worker(void *arg)
+{
+    seed = __VERIFIER_nondet_int();
+    return arg;
+}
 
 int main(void)
 {
+    pthread_t thread;
+    pthread_create(&thread, NULL, worker, NULL);
     return 0;
 }

@@ -1,8 +1,10 @@
--- What is said of a program's rules, slots and cost excludes every other case.
-use Rattle.std.proofs.Common.{◌≡◌, ℕ, ◌<◌, ◌≤◌, List, [], ◌∷◌, sym, ◌∙◌, ap, subst, arith}
+-- What is said of a program's rules, slots, cost and first choice excludes every other case.
+use Rattle.std.proofs.Common.{◌≡◌, ℕ, ◌<◌, ◌≤◌, List, [], ◌∷◌, Some, None, sym, ◌∙◌, ap, subst, arith}
 use Rattle.lz_tree.specs.Trees.{TranslationUnit}
+use Rattle.lz_tree.specs.ScopedTrees.{ScopedProgram}
 use Rattle.lz_scopes.specs.declared.fault.Fault.{Fault}
 use Rattle.lz_resolve.specs.ScopedPrograms.{scoped_of}
+use Rattle.lz_choices.specs.Choices.{first_choice}
 use Rattle.lz_types.specs.Checking.{AreFaults, number_of}
 use Rattle.lz_types.proofs.UniqueLemmas.{one_list}
 use Rattle.lz_slots.specs.Nesting.{saturated}
@@ -10,7 +12,7 @@ use Rattle.lz_slots.specs.Slots.{slots}
 use Rattle.lz_slots.specs.Costs.{cost}
 use Rattle.lz_cli.specs.declared.ending.Ending.TheVariants.{Faulty, ManySlots, HighCost}
 use Rattle.lz_cli.specs.Limits.{Bounds, slot_limit, cost_limit}
-use Rattle.lz_cli.specs.Admission.{IsFaulty, IsAccepted, HasManySlots, HasHighCost}
+use Rattle.lz_cli.specs.Admission.{IsFaulty, IsAccepted, HasManySlots, HasHighCost, IsAdmitted}
 use Rattle.lz_cli.proofs.SourceLemmas.{OneTree, one_tree}
 
 -- ---- rules
@@ -66,3 +68,23 @@ pub one_cost : OneTree → (bounds : Bounds) (bytes : List ℕ) (n m : ℕ) → 
 one_cost one bounds bytes n m a b =
     let same : a.tree ≡ b.tree = same_accepted one bytes a.tree b.tree a.accepted b.accepted in
     ap HighCost (a.told_cost ∙ ap (λ (t : TranslationUnit). saturated (cost (scoped_of t) bounds.unwind bounds.rounds)) same ∙ sym b.told_cost)
+
+-- ---- choices
+
+-- bytes that are admitted mean one program
+pub same_program : OneTree → {bounds : Bounds} {bytes : List ℕ} (a b : IsAdmitted bounds bytes) → scoped_of a.tree ≡ scoped_of b.tree
+same_program one {bounds} {bytes} a b = ap scoped_of (same_accepted one bytes a.tree b.tree a.accepted b.accepted)
+
+none_some : {P : Type 0} (line : ℕ) → None ≡ Some line → P
+none_some line e = absurd cc
+
+inside : (line other : ℕ) → Some line ≡ Some other → line ≡ other
+inside line other e = cc
+
+-- no program has a choice and none
+pub no_choice_chosen : {P : Type 0} {p q : ScopedProgram} {line : ℕ} → p ≡ q → first_choice p ≡ None → first_choice q ≡ Some line → P
+no_choice_chosen {P} {p} {q} {line} same none some = none_some line (sym none ∙ ap first_choice same ∙ some)
+
+-- one choice is the first
+pub one_choice : {p q : ScopedProgram} {line other : ℕ} → p ≡ q → first_choice p ≡ Some line → first_choice q ≡ Some other → line ≡ other
+one_choice {p} {q} {line} {other} same a b = inside line other (sym a ∙ ap first_choice same ∙ b)

@@ -1,8 +1,6 @@
 -- Verdicts and endings are lawful.
-use Rattle.std.proofs.Common.{◌≡◌, ℕ, ◌<◌, ◌≤◌, ◌^◌, List, [], ◌∷◌, length, Some, None, inl, inr, refl, sym, subst, arith}
+use Rattle.std.proofs.Common.{◌≡◌, ℕ, ◌+◌, ◌*◌, ◌<◌, ◌≤◌, ◌^◌, List, [], ◌∷◌, length, Some, None, inl, inr, refl, sym, subst, arith}
 use Rattle.lz_base.specs.declared.word.BreakKind.{BreakKind}
-use Rattle.lz_tree.specs.FirstFormScopes.{Program}
-use Rattle.lz_tree.specs.FirstForm.{first_form}
 use Rattle.lz_tree.specs.declared.token.Tokens.{Tokens}
 use Rattle.lz_tree.specs.Tokens.{HasTokens}
 use Rattle.lz_tree.specs.Trees.{TranslationUnit}
@@ -17,8 +15,11 @@ use Rattle.lz_cnf.specs.declared.clause.Cnf.{Cnf}
 use Rattle.lz_cnf.specs.Models.{IsFormula, HasModel}
 use Rattle.lz_log.specs.declared.log.LogStep.{LogStep}
 use Rattle.lz_log.specs.Refutation.{Refutes}
-use Rattle.lz_cli.specs.declared.decide.Decided.TheVariants.{Holds, Broken}
-use Rattle.lz_cli.specs.Decide.{Decides}
+use Rattle.lz_replay.specs.declared.deciding.Decided.TheVariants.{Holds, Broken}
+use Rattle.lz_replay.specs.Deciding.{Decides}
+use Rattle.lz_choices.specs.Choices.{first_choice}
+use Rattle.lz_slots.specs.Slots.{function_sites, slots}
+use Rattle.lz_slots.specs.Costs.{body_cost, thread_cost, cost}
 use Rattle.lz_scopes.specs.declared.fault.Fault.{Fault}
 use Rattle.lz_resolve.specs.ScopedPrograms.{scoped_of}
 use Rattle.lz_types.specs.Checking.{AreFaults, number_of}
@@ -30,16 +31,8 @@ use Rattle.lz_cli.specs.CommandLine.{IsProofName, IsCheckName, IsReplayName, IsN
 use Rattle.lz_cli.specs.Limits.{Bounds, within, checking, schedule_limit}
 use Rattle.lz_cli.specs.Admission.{IsFaulty, IsAccepted, IsAdmitted}
 use Rattle.lz_cli.specs.Admit.{IsWithin, Admits}
-use Rattle.lz_cli.specs.Source.{HasTree, HasNoTree, IsFirstForm}
+use Rattle.lz_cli.specs.Source.{HasTree, HasNoTree}
 use Rattle.lz_cli.specs.Ending.{Call, IsSuccess, IsFailure, IsNotBuilt, IsSource, IsVerdict, IsRunSource, IsRun, IsRunBy, IsReplayed, IsLawful}
-
--- bytes whose tree has another form
-pub not_built : {bounds : Bounds} {bytes : List ℕ} {tree : TranslationUnit} → IsAdmitted bounds bytes → HasTree bytes tree → first_form tree ≡ None → IsNotBuilt bounds bytes 0
-not_built {bounds} {bytes} {tree} admitted of form = record { admitted = admitted; other_form = record { tree = tree; of = of; form = form }; no_line = refl }
-
--- bytes whose tree has the first form
-pub is_form : {bytes : List ℕ} {tree : TranslationUnit} {p : Program} → HasTree bytes tree → first_form tree ≡ Some p → IsFirstForm bytes p
-is_form {bytes} {tree} of form = record { tree = tree; of = of; form = form }
 
 -- bytes whose tokens a tree spells
 pub has_tree : {bytes : List ℕ} {tokens : Tokens} {tree : TranslationUnit} → HasTokens bytes tokens → IsProgram tokens tree → HasTree bytes tree
@@ -48,28 +41,6 @@ has_tree {bytes} {tokens} are spelled = record { tokens = tokens; are = are; spe
 -- bytes whose tokens no tree spells
 pub has_no_tree : {bytes : List ℕ} {tokens : Tokens} {line token : ℕ} → HasTokens bytes tokens → IsRefusedAt tokens token line → HasNoTree bytes line token
 has_no_tree {bytes} {tokens} are refused = record { tokens = tokens; are = are; refused = refused }
-
--- a program that holds, and the least refutation
-pub success : {turns : ℕ} {bytes : List ℕ} {p : Program} {formula : Cnf} {log : List LogStep} → IsAdmitted (checking turns) bytes → IsFirstForm bytes p → Decides p Holds → IsFormula formula → Refutes formula log → (HasModel formula → ⊥) → length log ≡ 1 → IsSuccess (checking turns) bytes turns 2 formula log
-success {turns} {bytes} {p} {formula} {log} admitted form holds is refutes no_model one = record {
-  program = p;
-  admitted = admitted;
-  form = form;
-  told_unwind = refl;
-  told_rounds = refl;
-  not_violated = holds turns 2;
-  proof = record { is = is; refutes = refutes; exact = (λ model. absurd (no_model model), λ violated. absurd (holds turns 2 violated)); within = omega arith };
-}
-
--- a program that is broken
-pub failure : {turns : ℕ} {bytes : List ℕ} {p : Program} {kind : BreakKind} {line : ℕ} {schedule : List Step} → IsAdmitted (checking turns) bytes → IsFirstForm bytes p → Decides p (Broken schedule kind line) → IsFailure (checking turns) bytes kind line schedule
-failure {turns} {bytes} {p} admitted form broken =
-    let run = broken turns in
-    record { program = p; admitted = admitted; form = form; run = run.0; is_broken = run.1; follows = run.2; within_rounds = omega (arith, run.3) }
-
--- one round is a number of rounds that can be told
-pub failure_printable : {p : Program} {kind : BreakKind} {line : ℕ} {schedule : List Step} → Decides p (Broken schedule kind line) → rounds_of (threads_of schedule) < 2 ^ 32
-failure_printable broken = omega (arith, (broken 2).3)
 
 -- ---- rules, slots and cost
 
@@ -83,11 +54,67 @@ pub admits : {turns rounds : ℕ} {bytes : List ℕ} {tree : TranslationUnit} {p
     → IsWithin p turns rounds → Admits turns rounds bytes tree p order
 admits accepted meaning ordered limits = record { accepted = accepted; limits = limits; meaning = meaning; ordered = ordered }
 
--- what is kept of it says that it is admitted
-pub admitted : {turns rounds : ℕ} {bytes : List ℕ} {tree : TranslationUnit} {p : ScopedProgram} {order : List ℕ} → Admits turns rounds bytes tree p order → IsAdmitted (within turns rounds) bytes
-admitted {turns} {rounds} {bytes} {tree} {p} kept =
+-- what is kept of it says that it is admitted, with the meaning of its tree
+within_limits : {turns rounds : ℕ} {bytes : List ℕ} {tree : TranslationUnit} {p : ScopedProgram} {order : List ℕ} {A : Type 0} → Admits turns rounds bytes tree p order
+    → ((is : IsAdmitted (within turns rounds) bytes) → p ≡ scoped_of is.tree → A) → A
+within_limits {turns} {rounds} {bytes} {tree} {p} kept use_ =
     let limits = subst (λ (q : ScopedProgram). IsWithin q turns rounds) kept.meaning kept.limits in
-    record { tree = tree; accepted = kept.accepted; few_slots = limits.few_slots; low_cost = limits.low_cost }
+    use_ (record { tree = tree; accepted = kept.accepted; few_slots = limits.few_slots; low_cost = limits.low_cost }) kept.meaning
+
+-- ---- verdicts on a program within the limits
+
+-- a program with a choice
+pub not_built : {turns : ℕ} {bytes : List ℕ} {tree : TranslationUnit} {p : ScopedProgram} {order : List ℕ} {line : ℕ} → Admits turns 2 bytes tree p order → first_choice p ≡ Some line
+    → IsNotBuilt (checking turns) bytes line
+not_built {turns} {bytes} {tree} {p} {order} {line} kept choice =
+    within_limits kept (λ is meaning. record { admitted = is; choice = subst (λ (q : ScopedProgram). first_choice q ≡ Some line) meaning choice })
+
+-- no program costs less than its thread
+some_cost : (p : ScopedProgram) (turns : ℕ) → 1 ≤ cost p turns 2
+some_cost p turns = least (body_cost p.functions turns threads p.main) (function_sites p.functions turns (thread_cost p.functions turns threads) p.main)
+  where
+    threads : ℕ
+    threads = slots p turns + 1
+
+    least : (a b : ℕ) → 1 ≤ 2 * (4096 + a + b)
+    least a b = omega arith
+
+-- a program that holds, and the least refutation
+pub success : {turns : ℕ} {bytes : List ℕ} {tree : TranslationUnit} {p : ScopedProgram} {order : List ℕ} {formula : Cnf} {log : List LogStep} → Admits turns 2 bytes tree p order → first_choice p ≡ None
+    → Decides p turns Holds → IsFormula formula → Refutes formula log → (HasModel formula → ⊥) → formula.variables ≡ 1 → length log ≡ 1 → IsSuccess (checking turns) bytes turns 2 formula log
+success {turns} {bytes} {tree} {p} {order} {formula} {log} kept none holds is_formula refutes no_model one_variable one = within_limits kept made
+  where
+    made : (is : IsAdmitted (within turns 2) bytes) → p ≡ scoped_of is.tree → IsSuccess (checking turns) bytes turns 2 formula log
+    made is meaning =
+        let safe : Decides (scoped_of is.tree) turns Holds = subst (λ (q : ScopedProgram). Decides q turns Holds) meaning holds in
+        record {
+          admitted = is;
+          no_choice = subst (λ (q : ScopedProgram). first_choice q ≡ None) meaning none;
+          told_unwind = refl;
+          told_rounds = refl;
+          not_violated = safe 2;
+          proof = record {
+            is = is_formula;
+            refutes = refutes;
+            exact = (λ model. absurd (no_model model), λ violated. absurd (safe 2 violated));
+            few_variables = omega (arith, one_variable, some_cost (scoped_of is.tree) turns);
+            within = omega arith;
+          };
+        }
+
+-- a program that is broken
+pub failure : {turns : ℕ} {bytes : List ℕ} {tree : TranslationUnit} {p : ScopedProgram} {order : List ℕ} {kind : BreakKind} {line : ℕ} {schedule : List Step} → Admits turns 2 bytes tree p order
+    → first_choice p ≡ None → Decides p turns (Broken schedule kind line) → IsFailure (checking turns) bytes kind line schedule
+failure {turns} {bytes} {tree} {p} {order} {kind} {line} {schedule} kept none broken = within_limits kept made
+  where
+    made : (is : IsAdmitted (within turns 2) bytes) → p ≡ scoped_of is.tree → IsFailure (checking turns) bytes kind line schedule
+    made is meaning =
+        let here : Decides (scoped_of is.tree) turns (Broken schedule kind line) = subst (λ (q : ScopedProgram). Decides q turns (Broken schedule kind line)) meaning broken in
+        record { admitted = is; no_choice = subst (λ (q : ScopedProgram). first_choice q ≡ None) meaning none; breaks = here.0; within_rounds = omega (arith, here.1) }
+
+-- one round is a number of rounds that can be told
+pub failure_printable : {p : ScopedProgram} {turns : ℕ} {kind : BreakKind} {line : ℕ} {schedule : List Step} → Decides p turns (Broken schedule kind line) → rounds_of (threads_of schedule) < 2 ^ 32
+failure_printable broken = omega (arith, broken.1)
 
 -- ---- replays
 
@@ -96,13 +123,11 @@ pub run_lawful : {call : Call} {turns : ℕ} {schedule bytes text : List ℕ} {t
     → files.Holds call.files schedule text → length text ≤ schedule_limit
     → ((by_ : IsRunBy call turns bytes text) → p ≡ scoped_of by_.run.admitted.tree → IsLawful call ending) → IsLawful call ending
 run_lawful {call} {turns} {schedule} {bytes} {text} {tree} {p} ending source kept held within_ lawful =
-    let limits = subst (λ (q : ScopedProgram). IsWithin q turns 1) kept.meaning kept.limits in
-    let is : IsAdmitted (within turns 1) bytes = record { tree = tree; accepted = kept.accepted; few_slots = limits.few_slots; low_cost = limits.low_cost } in
-    lawful (record { schedule = schedule; run = record { source = source; admitted = is }; held = held; within_limit = within_ }) kept.meaning
+    within_limits kept (λ is meaning. lawful (record { schedule = schedule; run = record { source = source; admitted = is }; held = held; within_limit = within_ }) meaning)
 
 pub is_run : {call : Call} {turns : ℕ} {schedule bytes : List ℕ} {tree : TranslationUnit} {p : ScopedProgram} {order : List ℕ} → IsRunSource call turns schedule bytes → Admits turns 1 bytes tree p order
     → IsRun call turns schedule bytes
-is_run source kept = record { source = source; admitted = admitted kept }
+is_run source kept = within_limits kept (λ is meaning. record { source = source; admitted = is })
 
 pub is_replayed : {call : Call} {turns : ℕ} {bytes text : List ℕ} {steps : List Step} {p : ScopedProgram} {answer : Replayed} (by_ : IsRunBy call turns bytes text) → IsScheduleText text steps → p ≡ scoped_of by_.run.admitted.tree
     → Says p turns steps answer → IsReplayed call answer

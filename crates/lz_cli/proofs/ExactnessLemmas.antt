@@ -3,17 +3,19 @@ use Rattle.std.proofs.Common.{◌≡◌, ℕ, ◌<◌, ◌≤◌, ◌⊎◌, inl
 use Rattle.lz_base.specs.declared.word.BreakKind.{BreakKind}
 use Rattle.lz_outside.specs.Faults.{Rose}
 use Rattle.lz_outside.specs.Files.{FileMap, Lacks, Tells, Holds, IsLonger}
-use Rattle.lz_tree.specs.FirstFormScopes.{Program}
 use Rattle.lz_tree.specs.declared.token.Tokens.{Tokens}
 use Rattle.lz_tree.specs.Tokens.{HasTokens}
 use Rattle.lz_tree.specs.Trees.{TranslationUnit}
 use Rattle.lz_parse.specs.Programs.{IsProgram, IsRefusedAt}
 use Rattle.lz_model.specs.declared.schedule.Step.{Step}
-use Rattle.lz_model.specs.Violation.{Violated}
+use Rattle.lz_model.specs.declared.actions.Event.{Event}
+use Rattle.lz_model.specs.Rounds.{rounds_of, threads_of}
+use Rattle.lz_model.specs.BrokenRuns.{IsBrokenRun, rounds_of_run, Follows}
+use Rattle.lz_model.specs.Programs.{process_of, IsViolatedWithin}
 use Rattle.lz_model.specs.ScheduleText.{IsScheduleText, IsNoSchedule, lines_of}
-use Rattle.lz_model.proofs.ViolationLemmas.{rounds_of_run-follows}
 use Rattle.lz_tree.specs.ScopedTrees.{ScopedProgram}
 use Rattle.lz_resolve.specs.ScopedPrograms.{scoped_of}
+use Rattle.lz_choices.specs.Choices.{first_choice}
 use Rattle.lz_replay.specs.declared.answer.Replayed.{Replayed}
 use Rattle.lz_replay.specs.Replays.{Says}
 use Rattle.lz_cli.specs.declared.ending.Ending.{Ending}
@@ -22,12 +24,12 @@ use Rattle.lz_cli.specs.CommandLine.{IsFileName, IsProofName, IsSourceName, IsNa
 use Rattle.lz_cli.specs.Recheck.{proof_limit, IsRechecked}
 use Rattle.lz_base.specs.Limits.{file_limit}
 use Rattle.lz_cli.specs.Limits.{Bounds, defaults, checking, replaying, schedule_limit}
-use Rattle.lz_cli.specs.Source.{HasNoTokens, HasTree, IsFirstForm, IsOtherForm}
+use Rattle.lz_cli.specs.Source.{HasNoTokens, HasTree}
 use Rattle.lz_cli.specs.Admission.{IsFaulty, IsAccepted, HasManySlots, HasHighCost, IsAdmitted}
 use Rattle.lz_cli.specs.Ending.{Call, IsSource, IsRunSource, IsProofSource, IsVerdict, IsFailure, IsLawful, NamesNoFile}
 use Rattle.lz_cli.specs.Exactness.{IsToldFile, IsToldCheck, IsToldRun, IsToldSource, IsToldReplay, IsToldProof, IsDecided, IsDecidedWithin, IsRefusal, IsEither, IsAnswer, IsRunAnswer}
-use Rattle.lz_cli.proofs.AdmissionLemmas.{same_accepted, no_fault_accepted, one_faulty, no_slots_accepted, no_cost_accepted, one_slots, one_cost}
-use Rattle.lz_cli.proofs.SourceLemmas.{OneTree, one_tokens, no_tokens, one_place, no_tree, one_meaning, no_other}
+use Rattle.lz_cli.proofs.AdmissionLemmas.{same_accepted, no_fault_accepted, one_faulty, no_slots_accepted, no_cost_accepted, one_slots, one_cost, same_program, no_choice_chosen, one_choice}
+use Rattle.lz_cli.proofs.SourceLemmas.{OneTree, one_tokens, no_tokens, one_place, no_tree}
 use Rattle.lz_cli.proofs.ScheduleLemmas.{no_first_bad, one_first_bad}
 use Rattle.lz_cli.proofs.NamesLemmas.{same_check, check_proof, same_run, check_run, proof_run, same_named}
 use Rattle.lz_cli.proofs.OriginLemmas.{unfit_verdict, admitted_fits, RunEnds, replayed, unreadable, longer, unread, Origin, decided, refused, ran, rechecked, too_long, proof_too_long, not_read, unnamed, out, origin}
@@ -145,65 +147,76 @@ default_source call content told = inl (2, by_default call content told, refl)
 
 -- ---- laws
 
-failure_violates : (bounds : Bounds) (bytes : List ℕ) (kind : BreakKind) (line : ℕ) (schedule : List Step) (failure : IsFailure bounds bytes kind line schedule) → Violated failure.program bounds.unwind bounds.rounds
-failure_violates bounds bytes kind line schedule failure =
-    (failure.run, kind, line, failure.is_broken, omega (arith, rounds_of_run-follows failure.run schedule failure.follows, failure.within_rounds))
+-- what is taken of lz_model: a schedule that a broken run follows is followed by a broken run in just its rounds
+abbrev pub BrokenInRounds : Type 0
+BrokenInRounds = (p : ScopedProgram) (n : ℕ) (run : List Event) (schedule : List Step) (kind : BreakKind) (line : ℕ) → IsBrokenRun (process_of p n) run kind line → Follows run schedule
+    → (other : List Event) × IsBrokenRun (process_of p n) other kind line × Follows other schedule × (rounds_of_run other ≡ rounds_of (threads_of schedule))
 
--- a file of the first form
-decided_by : OneTree → (bounds : Bounds) (bytes : List ℕ) (p : Program) (ending : Ending) → IsAdmitted bounds bytes → IsFirstForm bytes p → IsVerdict bounds bytes ending → IsDecidedWithin bounds p ending
-decided_by one bounds bytes p (Successful unwind rounds formula log) in_limits form v =
-    subst (λ (q : Program). Violated q bounds.unwind bounds.rounds → ⊥) (one_meaning one bytes v.program p v.form form) v.not_violated
-decided_by one bounds bytes p (Failed kind line schedule) in_limits form v =
-    subst (λ (q : Program). Violated q bounds.unwind bounds.rounds) (one_meaning one bytes v.program p v.form form) (failure_violates bounds bytes kind line schedule v)
-decided_by one bounds bytes p (NotAToken line place) in_limits form v = no_tokens bytes form.of.tokens line place form.of.are v
-decided_by one bounds bytes p (NotAProgram line token) in_limits form v = no_tree bytes form.tree line token form.of v
-decided_by one bounds bytes p (Faulty line rule) in_limits form v = no_fault_accepted one bytes in_limits.tree line rule in_limits.accepted v
-decided_by one bounds bytes p (ManySlots slots) in_limits form v = no_slots_accepted one bounds bytes in_limits.tree slots in_limits.accepted in_limits.few_slots v
-decided_by one bounds bytes p (HighCost cost) in_limits form v = no_cost_accepted one bounds bytes in_limits.tree cost in_limits.accepted in_limits.low_cost v
-decided_by one bounds bytes p (Recheck answer) in_limits form v = v
-decided_by one bounds bytes p (Replay answer) in_limits form v = v
-decided_by one bounds bytes p (NotBuilt line) in_limits form v = no_other one bytes p form v.other_form
-decided_by one bounds bytes p FileTooLong in_limits form v = v
-decided_by one bounds bytes p ScheduleTooLong in_limits form v = v
-decided_by one bounds bytes p ProofTooLong in_limits form v = v
-decided_by one bounds bytes p (BadSchedule line_) in_limits form v = v
-decided_by one bounds bytes p (ReadFault name) in_limits form v = v
-decided_by one bounds bytes p OutOfMemory in_limits form v = tt
+failure_violates : BrokenInRounds → (bounds : Bounds) (bytes : List ℕ) (kind : BreakKind) (line : ℕ) (schedule : List Step) (failure : IsFailure bounds bytes kind line schedule)
+    → IsViolatedWithin (scoped_of failure.admitted.tree) bounds.unwind bounds.rounds
+failure_violates in_rounds bounds bytes kind line schedule failure =
+    let other = in_rounds (scoped_of failure.admitted.tree) bounds.unwind failure.breaks.run schedule kind line failure.breaks.broken_ failure.breaks.follows in
+    record { run = other.0; kind = kind; line = line; broken_ = other.1; few = omega (arith, other.3, failure.within_rounds) }
 
-pub decided_within : OneTree → (call : Call) (turns : ℕ) (content : List ℕ) (p : Program) (ending : Ending) → IsToldCheck call turns content → length content ≤ file_limit → IsAdmitted (checking turns) content
-    → IsFirstForm content p → IsLawful call ending → IsDecidedWithin (checking turns) p ending
-decided_within one call turns content p ending told short in_limits form lawful =
-    decided_by one (checking turns) content p ending in_limits form (check_verdict call turns content ending told short (origin call ending lawful))
+-- a file whose program has no choice
+decided_by : OneTree → BrokenInRounds → (bounds : Bounds) (bytes : List ℕ) (ending : Ending) (a : IsAdmitted bounds bytes) → first_choice (scoped_of a.tree) ≡ None → IsVerdict bounds bytes ending
+    → IsDecidedWithin bounds (scoped_of a.tree) ending
+decided_by one in_rounds bounds bytes (Successful unwind rounds formula log) a none v =
+    subst (λ (q : ScopedProgram). IsViolatedWithin q bounds.unwind bounds.rounds → ⊥) (same_program one v.admitted a) v.not_violated
+decided_by one in_rounds bounds bytes (Failed kind line schedule) a none v =
+    subst (λ (q : ScopedProgram). IsViolatedWithin q bounds.unwind bounds.rounds) (same_program one v.admitted a) (failure_violates in_rounds bounds bytes kind line schedule v)
+decided_by one in_rounds bounds bytes (NotAToken line place) a none v = no_tokens bytes a.accepted.of.tokens line place a.accepted.of.are v
+decided_by one in_rounds bounds bytes (NotAProgram line token) a none v = no_tree bytes a.tree line token a.accepted.of v
+decided_by one in_rounds bounds bytes (Faulty line rule) a none v = no_fault_accepted one bytes a.tree line rule a.accepted v
+decided_by one in_rounds bounds bytes (ManySlots slots) a none v = no_slots_accepted one bounds bytes a.tree slots a.accepted a.few_slots v
+decided_by one in_rounds bounds bytes (HighCost cost) a none v = no_cost_accepted one bounds bytes a.tree cost a.accepted a.low_cost v
+decided_by one in_rounds bounds bytes (Recheck answer) a none v = v
+decided_by one in_rounds bounds bytes (Replay answer) a none v = v
+decided_by one in_rounds bounds bytes (NotBuilt line) a none v = no_choice_chosen (same_program one a v.admitted) none v.choice
+decided_by one in_rounds bounds bytes FileTooLong a none v = v
+decided_by one in_rounds bounds bytes ScheduleTooLong a none v = v
+decided_by one in_rounds bounds bytes ProofTooLong a none v = v
+decided_by one in_rounds bounds bytes (BadSchedule line) a none v = v
+decided_by one in_rounds bounds bytes (ReadFault name) a none v = v
+decided_by one in_rounds bounds bytes OutOfMemory a none v = tt
 
-pub decided_ends : OneTree → (call : Call) (content : List ℕ) (p : Program) (ending : Ending) → IsToldFile call content → length content ≤ file_limit → IsAdmitted defaults content → IsFirstForm content p → IsLawful call ending → IsDecided p ending
-decided_ends one call content p ending told short in_limits form lawful = decided_within one call 2 content p ending (by_default call content told) short in_limits form lawful
+pub decided_within : OneTree → BrokenInRounds → (call : Call) (turns : ℕ) (content : List ℕ) (ending : Ending) → IsToldCheck call turns content → length content ≤ file_limit
+    → (admitted : IsAdmitted (checking turns) content) → first_choice (scoped_of admitted.tree) ≡ None → IsLawful call ending → IsDecidedWithin (checking turns) (scoped_of admitted.tree) ending
+decided_within one in_rounds call turns content ending told short admitted none lawful =
+    decided_by one in_rounds (checking turns) content ending admitted none (check_verdict call turns content ending told short (origin call ending lawful))
 
--- a file of another form
-not_built_by : OneTree → (bounds : Bounds) (bytes : List ℕ) (ending : Ending) → IsAdmitted bounds bytes → IsOtherForm bytes → IsVerdict bounds bytes ending → IsEither (NotBuilt 0) ending
-not_built_by one bounds bytes (Successful unwind rounds formula log) in_limits other v = no_other one bytes v.program v.form other
-not_built_by one bounds bytes (Failed kind line schedule) in_limits other v = no_other one bytes v.program v.form other
-not_built_by one bounds bytes (NotAToken line place) in_limits other v = no_tokens bytes other.of.tokens line place other.of.are v
-not_built_by one bounds bytes (NotAProgram line token) in_limits other v = no_tree bytes other.tree line token other.of v
-not_built_by one bounds bytes (Faulty line rule) in_limits other v = no_fault_accepted one bytes in_limits.tree line rule in_limits.accepted v
-not_built_by one bounds bytes (ManySlots slots) in_limits other v = no_slots_accepted one bounds bytes in_limits.tree slots in_limits.accepted in_limits.few_slots v
-not_built_by one bounds bytes (HighCost cost) in_limits other v = no_cost_accepted one bounds bytes in_limits.tree cost in_limits.accepted in_limits.low_cost v
-not_built_by one bounds bytes (Recheck answer) in_limits other v = absurd v
-not_built_by one bounds bytes (Replay answer) in_limits other v = absurd v
-not_built_by one bounds bytes (NotBuilt line) in_limits other v = ap NotBuilt (sym v.no_line)
-not_built_by one bounds bytes FileTooLong in_limits other v = absurd v
-not_built_by one bounds bytes ScheduleTooLong in_limits other v = absurd v
-not_built_by one bounds bytes ProofTooLong in_limits other v = absurd v
-not_built_by one bounds bytes (BadSchedule line_) in_limits other v = absurd v
-not_built_by one bounds bytes (ReadFault name) in_limits other v = absurd v
-not_built_by one bounds bytes OutOfMemory in_limits other v = tt
+pub decided_ends : OneTree → BrokenInRounds → (call : Call) (content : List ℕ) (ending : Ending) → IsToldFile call content → length content ≤ file_limit
+    → (admitted : IsAdmitted defaults content) → first_choice (scoped_of admitted.tree) ≡ None → IsLawful call ending → IsDecided (scoped_of admitted.tree) ending
+decided_ends one in_rounds call content ending told = decided_within one in_rounds call 2 content ending (by_default call content told)
 
-pub not_built_within : OneTree → (call : Call) (turns : ℕ) (content : List ℕ) (ending : Ending) → IsToldCheck call turns content → length content ≤ file_limit → IsAdmitted (checking turns) content → IsOtherForm content
-    → IsLawful call ending → IsEither (NotBuilt 0) ending
-not_built_within one call turns content ending told short in_limits other lawful =
-    not_built_by one (checking turns) content ending in_limits other (check_verdict call turns content ending told short (origin call ending lawful))
+-- a file whose program has a choice
+not_built_by : OneTree → (bounds : Bounds) (bytes : List ℕ) (line : ℕ) (ending : Ending) (a : IsAdmitted bounds bytes) → first_choice (scoped_of a.tree) ≡ Some line → IsVerdict bounds bytes ending
+    → IsEither (NotBuilt line) ending
+not_built_by one bounds bytes line (Successful unwind rounds formula log) a some v = no_choice_chosen (same_program one v.admitted a) v.no_choice some
+not_built_by one bounds bytes line (Failed kind l schedule) a some v = no_choice_chosen (same_program one v.admitted a) v.no_choice some
+not_built_by one bounds bytes line (NotAToken l place) a some v = no_tokens bytes a.accepted.of.tokens l place a.accepted.of.are v
+not_built_by one bounds bytes line (NotAProgram l token) a some v = no_tree bytes a.tree l token a.accepted.of v
+not_built_by one bounds bytes line (Faulty l rule) a some v = no_fault_accepted one bytes a.tree l rule a.accepted v
+not_built_by one bounds bytes line (ManySlots slots) a some v = no_slots_accepted one bounds bytes a.tree slots a.accepted a.few_slots v
+not_built_by one bounds bytes line (HighCost cost) a some v = no_cost_accepted one bounds bytes a.tree cost a.accepted a.low_cost v
+not_built_by one bounds bytes line (Recheck answer) a some v = absurd v
+not_built_by one bounds bytes line (Replay answer) a some v = absurd v
+not_built_by one bounds bytes line (NotBuilt l) a some v = ap NotBuilt (one_choice (same_program one a v.admitted) some v.choice)
+not_built_by one bounds bytes line FileTooLong a some v = absurd v
+not_built_by one bounds bytes line ScheduleTooLong a some v = absurd v
+not_built_by one bounds bytes line ProofTooLong a some v = absurd v
+not_built_by one bounds bytes line (BadSchedule l) a some v = absurd v
+not_built_by one bounds bytes line (ReadFault name) a some v = absurd v
+not_built_by one bounds bytes line OutOfMemory a some v = tt
 
-pub not_built_ends : OneTree → (call : Call) (content : List ℕ) (ending : Ending) → IsToldFile call content → length content ≤ file_limit → IsAdmitted defaults content → IsOtherForm content → IsLawful call ending → IsEither (NotBuilt 0) ending
-not_built_ends one call content ending told short in_limits other lawful = not_built_within one call 2 content ending (by_default call content told) short in_limits other lawful
+pub not_built_within : OneTree → (call : Call) (turns : ℕ) (content : List ℕ) (line : ℕ) (ending : Ending) → IsToldCheck call turns content → length content ≤ file_limit
+    → (admitted : IsAdmitted (checking turns) content) → first_choice (scoped_of admitted.tree) ≡ Some line → IsLawful call ending → IsEither (NotBuilt line) ending
+not_built_within one call turns content line ending told short admitted some lawful =
+    not_built_by one (checking turns) content line ending admitted some (check_verdict call turns content ending told short (origin call ending lawful))
+
+pub not_built_ends : OneTree → (call : Call) (content : List ℕ) (line : ℕ) (ending : Ending) → IsToldFile call content → length content ≤ file_limit
+    → (admitted : IsAdmitted defaults content) → first_choice (scoped_of admitted.tree) ≡ Some line → IsLawful call ending → IsEither (NotBuilt line) ending
+not_built_ends one call content line ending told = not_built_within one call 2 content line ending (by_default call content told)
 
 -- a file whose program breaks a rule
 faulty_by : OneTree → (bounds : Bounds) (bytes : List ℕ) (line rule : ℕ) (ending : Ending) → IsFaulty bytes line rule → IsVerdict bounds bytes ending → IsEither (Faulty line rule) ending
@@ -284,8 +297,8 @@ same_place bytes line place l p a b =
     ap (λ (n : ℕ). NotAToken n place) same.0 ∙ ap (λ (n : ℕ). NotAToken l n) same.1
 
 not_a_token_by : (bounds : Bounds) (bytes : List ℕ) (line place : ℕ) (ending : Ending) → HasNoTokens bytes line place → IsVerdict bounds bytes ending → IsEither (NotAToken line place) ending
-not_a_token_by bounds bytes line place (Successful unwind rounds formula log) none v = no_tokens bytes v.form.of.tokens line place v.form.of.are none
-not_a_token_by bounds bytes line place (Failed kind l schedule) none v = no_tokens bytes v.form.of.tokens line place v.form.of.are none
+not_a_token_by bounds bytes line place (Successful unwind rounds formula log) none v = no_tokens bytes v.admitted.accepted.of.tokens line place v.admitted.accepted.of.are none
+not_a_token_by bounds bytes line place (Failed kind l schedule) none v = no_tokens bytes v.admitted.accepted.of.tokens line place v.admitted.accepted.of.are none
 not_a_token_by bounds bytes line place (NotAToken l p) none v = same_place bytes line place l p none v
 not_a_token_by bounds bytes line place (NotAProgram l token) none v = no_tokens bytes v.tokens line place v.are none
 not_a_token_by bounds bytes line place (Faulty l rule) none v = no_tokens bytes v.of.tokens line place v.of.are none
@@ -293,7 +306,7 @@ not_a_token_by bounds bytes line place (ManySlots slots) none v = no_tokens byte
 not_a_token_by bounds bytes line place (HighCost cost) none v = no_tokens bytes v.accepted.of.tokens line place v.accepted.of.are none
 not_a_token_by bounds bytes line place (Recheck answer) none v = absurd v
 not_a_token_by bounds bytes line place (Replay answer) none v = absurd v
-not_a_token_by bounds bytes line place (NotBuilt l) none v = no_tokens bytes v.other_form.of.tokens line place v.other_form.of.are none
+not_a_token_by bounds bytes line place (NotBuilt l) none v = no_tokens bytes v.admitted.accepted.of.tokens line place v.admitted.accepted.of.are none
 not_a_token_by bounds bytes line place FileTooLong none v = absurd v
 not_a_token_by bounds bytes line place ScheduleTooLong none v = absurd v
 not_a_token_by bounds bytes line place ProofTooLong none v = absurd v
@@ -312,8 +325,8 @@ tree_here : (bytes : List ℕ) (tokens : Tokens) (tree : TranslationUnit) → Ha
 tree_here bytes tokens tree are of = subst (λ (s : Tokens). IsProgram s tree) (one_tokens bytes of.tokens tokens of.are are) of.spelled
 
 not_a_program_by : (bounds : Bounds) (bytes : List ℕ) (tokens : Tokens) (ending : Ending) → HasTokens bytes tokens → ((u : TranslationUnit) → IsProgram tokens u → ⊥) → IsVerdict bounds bytes ending → IsRefusal tokens ending
-not_a_program_by bounds bytes tokens (Successful unwind rounds formula log) are none v = none v.form.tree (tree_here bytes tokens v.form.tree are v.form.of)
-not_a_program_by bounds bytes tokens (Failed kind line schedule) are none v = none v.form.tree (tree_here bytes tokens v.form.tree are v.form.of)
+not_a_program_by bounds bytes tokens (Successful unwind rounds formula log) are none v = none v.admitted.tree (tree_here bytes tokens v.admitted.tree are v.admitted.accepted.of)
+not_a_program_by bounds bytes tokens (Failed kind line schedule) are none v = none v.admitted.tree (tree_here bytes tokens v.admitted.tree are v.admitted.accepted.of)
 not_a_program_by bounds bytes tokens (NotAToken line place) are none v = no_tokens bytes tokens line place are v
 not_a_program_by bounds bytes tokens (NotAProgram line token) are none v =
     subst (λ (s : Tokens). IsRefusedAt s token line) (one_tokens bytes v.tokens tokens v.are are) v.refused
@@ -322,7 +335,7 @@ not_a_program_by bounds bytes tokens (ManySlots slots) are none v = none v.tree 
 not_a_program_by bounds bytes tokens (HighCost cost) are none v = none v.tree (tree_here bytes tokens v.tree are v.accepted.of)
 not_a_program_by bounds bytes tokens (Recheck answer) are none v = v
 not_a_program_by bounds bytes tokens (Replay answer) are none v = v
-not_a_program_by bounds bytes tokens (NotBuilt line) are none v = none v.other_form.tree (tree_here bytes tokens v.other_form.tree are v.other_form.of)
+not_a_program_by bounds bytes tokens (NotBuilt line) are none v = none v.admitted.tree (tree_here bytes tokens v.admitted.tree are v.admitted.accepted.of)
 not_a_program_by bounds bytes tokens FileTooLong are none v = v
 not_a_program_by bounds bytes tokens ScheduleTooLong are none v = v
 not_a_program_by bounds bytes tokens ProofTooLong are none v = v

@@ -1,5 +1,4 @@
 mod AdmissionLemmas
-pub mod DecideLemmas
 pub mod EndingLemmas
 pub mod ExactnessLemmas
 mod NamesLemmas

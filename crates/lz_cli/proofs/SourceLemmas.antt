@@ -1,5 +1,5 @@
 -- What the bytes of a file are excludes every other case: one cut, one tree, one program, one refused token.
-use Rattle.std.proofs.Common.{◌≡◌, ℕ, ◌<◌, ◌≤◌, ◌+◌, ◌⊎◌, inl, inr, List, ◌++◌, take, drop, Some, None, sym, ◌∙◌, ap, subst, append_assoc, arith}
+use Rattle.std.proofs.Common.{◌≡◌, ℕ, ◌<◌, ◌≤◌, ◌+◌, ◌⊎◌, inl, inr, List, ◌++◌, take, drop, sym, ◌∙◌, ap, subst, append_assoc, arith}
 use Rattle.std.proofs.lemmas.Bool.{cases_order}
 use Rattle.std.proofs.lemmas.List.{take-append-drop, take-take}
 use Rattle.lz_tree.specs.declared.token.Token.{Token}
@@ -7,11 +7,9 @@ use Rattle.lz_tree.specs.declared.token.Tokens.{Tokens}
 use Rattle.lz_tree.specs.Tokens.{Cutting, Cut, HasTokens, cut, whole, stopped}
 use Rattle.lz_tree.specs.Trees.{TranslationUnit}
 use Rattle.lz_tree.specs.Spelling.{SpellsExternals}
-use Rattle.lz_tree.specs.FirstFormScopes.{Program}
-use Rattle.lz_tree.specs.FirstForm.{first_form}
 use Rattle.lz_expr.specs.Lines.{line_of}
 use Rattle.lz_parse.specs.Programs.{IsProgram, BeginsProgram, IsRefusedAt}
-use Rattle.lz_cli.specs.Source.{HasNoTokens, HasNoTree, HasTree, IsFirstForm, IsOtherForm}
+use Rattle.lz_cli.specs.Source.{HasNoTokens, HasNoTree, HasTree}
 
 -- ---- one cut
 
@@ -64,22 +62,6 @@ one_tree one bytes t u a b =
 pub no_tree : {P : Type 0} (bytes : List ℕ) (t : TranslationUnit) (line token : ℕ) → HasTree bytes t → HasNoTree bytes line token → P
 no_tree bytes t line token a none =
     absurd (none.refused.none t (subst (λ (s : Tokens). IsProgram s t) (one_tokens bytes a.tokens none.tokens a.are none.are) a.spelled))
-
-inside : (p q : Program) → Some p ≡ Some q → p ≡ q
-inside p q e = cc
-
-some_none : {P : Type 0} (p : Program) → Some p ≡ None → P
-some_none p e = absurd cc
-
--- no bytes mean two programs of the first form
-pub one_meaning : OneTree → (bytes : List ℕ) (p q : Program) → IsFirstForm bytes p → IsFirstForm bytes q → p ≡ q
-one_meaning one bytes p q a b =
-    inside p q (sym a.form ∙ ap first_form (one_tree one bytes a.tree b.tree a.of b.of) ∙ b.form)
-
--- no bytes have the first form and another
-pub no_other : {P : Type 0} → OneTree → (bytes : List ℕ) (p : Program) → IsFirstForm bytes p → IsOtherForm bytes → P
-no_other one bytes p a b =
-    some_none p (sym a.form ∙ ap first_form (one_tree one bytes a.tree b.tree a.of b.of) ∙ b.form)
 
 -- ---- one refused token
 

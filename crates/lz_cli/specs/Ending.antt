@@ -1,17 +1,18 @@
 -- Trusted: when an ending is lawful, case by case.
-use Rattle.std.specs.Prelude.{◌≡◌, ℕ, ◌≤◌, ◌⊎◌, ◌↔◌, List, length, Option, ⊤}
+use Rattle.std.specs.Prelude.{◌≡◌, ℕ, ◌≤◌, ◌⊎◌, ◌↔◌, List, length, Option, Some, None, ⊤}
 use Rattle.lz_base.specs.declared.word.BreakKind.{BreakKind}
 use Rattle.lz_outside.specs.Faults.{Rose}
 use Rattle.lz_outside.specs.Files.{FileMap, Lacks, Holds, IsLonger}
-use Rattle.lz_tree.specs.FirstFormScopes.{Program}
-use Rattle.lz_model.specs.declared.action.Event.{Event}
+use Rattle.lz_tree.specs.ScopedTrees.{ScopedProgram}
 use Rattle.lz_model.specs.declared.schedule.Step.{Step}
 use Rattle.lz_model.specs.Rounds.{rounds_of, threads_of}
-use Rattle.lz_model.specs.Violation.{IsBrokenRun, Violated, Follows}
+use Rattle.lz_model.specs.Programs.{IsViolatedWithin}
 use Rattle.lz_model.specs.ScheduleText.{IsScheduleText, IsNoSchedule}
 use Rattle.lz_resolve.specs.ScopedPrograms.{scoped_of}
+use Rattle.lz_choices.specs.Choices.{first_choice}
+use Rattle.lz_slots.specs.Costs.{cost}
 use Rattle.lz_replay.specs.declared.answer.Replayed.{Replayed}
-use Rattle.lz_replay.specs.Replays.{Says}
+use Rattle.lz_replay.specs.Replays.{IsBrokenAt, Says}
 use Rattle.lz_cnf.specs.declared.clause.Cnf.{Cnf}
 use Rattle.lz_cnf.specs.Models.{IsFormula, HasModel}
 use Rattle.lz_log.specs.declared.log.LogStep.{LogStep}
@@ -20,7 +21,7 @@ use Rattle.lz_cli.specs.declared.ending.Ending.{Ending}
 use Rattle.lz_cli.specs.declared.ending.Ending.TheVariants.{Successful, Failed, NotAToken, NotAProgram, Faulty, ManySlots, HighCost, Recheck, Replay, NotBuilt, FileTooLong, ScheduleTooLong, ProofTooLong, BadSchedule, ReadFault, OutOfMemory}
 use Rattle.lz_cli.specs.CommandLine.{IsProofName, IsCheckName, IsReplayName, IsSourceName, IsNamed}
 use Rattle.lz_cli.specs.Recheck.{proof_limit, IsRechecked}
-use Rattle.lz_cli.specs.Source.{HasNoTokens, HasNoTree, IsFirstForm, IsOtherForm}
+use Rattle.lz_cli.specs.Source.{HasNoTokens, HasNoTree}
 use Rattle.lz_base.specs.Limits.{file_limit}
 use Rattle.lz_cli.specs.Limits.{Bounds, checking, replaying, schedule_limit}
 use Rattle.lz_cli.specs.Admission.{IsFaulty, HasManySlots, HasHighCost, IsAdmitted}
@@ -28,38 +29,34 @@ use Rattle.lz_cli.specs.Admission.{IsFaulty, HasManySlots, HasHighCost, IsAdmitt
 -- ---- verdicts on the bytes of a file
 
 -- The evidence of a success: a log that is within the bounds refutes the formula, which has a model exactly
--- where the program is violated.
-pub record IsProofOf (bounds : Bounds) (p : Program) (formula : Cnf) (log : List LogStep) : Type 0 where
+-- where the program is violated, and at most as many variables as the program costs.
+pub record IsProofOf (bounds : Bounds) (p : ScopedProgram) (formula : Cnf) (log : List LogStep) : Type 0 where
   pub is : IsFormula formula
   pub refutes : Refutes formula log
-  pub exact : HasModel formula ↔ Violated p bounds.unwind bounds.rounds
+  pub exact : HasModel formula ↔ IsViolatedWithin p bounds.unwind bounds.rounds
+  pub few_variables : formula.variables ≤ cost p bounds.unwind bounds.rounds
   pub within : length log ≤ bounds.conflicts
 
--- no run of the program breaks a check within the bounds
+-- the program has no choice, and no run of it breaks a check within the bounds
 pub record IsSuccess (bounds : Bounds) (bytes : List ℕ) (unwind rounds : ℕ) (formula : Cnf) (log : List LogStep) : Type 0 where
-  pub program : Program
   pub admitted : IsAdmitted bounds bytes
-  pub form : IsFirstForm bytes program
+  pub no_choice : first_choice (scoped_of admitted.tree) ≡ None
   pub told_unwind : unwind ≡ bounds.unwind
   pub told_rounds : rounds ≡ bounds.rounds
-  pub not_violated : Violated program bounds.unwind bounds.rounds → ⊥
-  pub proof : IsProofOf bounds program formula log
+  pub not_violated : IsViolatedWithin (scoped_of admitted.tree) bounds.unwind bounds.rounds → ⊥
+  pub proof : IsProofOf bounds (scoped_of admitted.tree) formula log
 
--- a run of the program follows the schedule and breaks a check of this kind on this line
+-- the program has no choice, and a run of it follows the schedule and breaks a check of this kind on this line
 pub record IsFailure (bounds : Bounds) (bytes : List ℕ) (kind : BreakKind) (line : ℕ) (schedule : List Step) : Type 0 where
-  pub program : Program
   pub admitted : IsAdmitted bounds bytes
-  pub form : IsFirstForm bytes program
-  pub run : List Event
-  pub is_broken : IsBrokenRun program bounds.unwind run kind line
-  pub follows : Follows run schedule
+  pub no_choice : first_choice (scoped_of admitted.tree) ≡ None
+  pub breaks : IsBrokenAt (scoped_of admitted.tree) bounds.unwind schedule kind line
   pub within_rounds : rounds_of (threads_of schedule) ≤ bounds.rounds
 
--- the bytes have a tree of a form that is not built
+-- the program has a choice, and this is the line of its first
 pub record IsNotBuilt (bounds : Bounds) (bytes : List ℕ) (line : ℕ) : Type 0 where
   pub admitted : IsAdmitted bounds bytes
-  pub other_form : IsOtherForm bytes
-  pub no_line : line ≡ 0
+  pub choice : first_choice (scoped_of admitted.tree) ≡ Some line
 
 -- the ending is lawful for a file of these bytes, all of which were read
 abbrev pub IsVerdict : Bounds → List ℕ → Ending → Type 0

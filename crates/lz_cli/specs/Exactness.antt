@@ -4,10 +4,9 @@ use Rattle.std.specs.Prelude.{◌≡◌, ◌⊎◌, ℕ, List, ⊤}
 use Rattle.lz_outside.specs.Faults.{Rose}
 use Rattle.lz_outside.specs.Files.{Tells}
 use Rattle.lz_tree.specs.declared.token.Tokens.{Tokens}
-use Rattle.lz_tree.specs.FirstFormScopes.{Program}
 use Rattle.lz_parse.specs.Programs.{IsRefusedAt}
 use Rattle.lz_model.specs.declared.schedule.Step.{Step}
-use Rattle.lz_model.specs.Violation.{Violated}
+use Rattle.lz_model.specs.Programs.{IsViolatedWithin}
 use Rattle.lz_model.specs.ScheduleText.{IsScheduleText, IsNoSchedule}
 use Rattle.lz_tree.specs.ScopedTrees.{ScopedProgram}
 use Rattle.lz_replay.specs.declared.answer.Replayed.{Replayed}
@@ -53,9 +52,9 @@ pub record IsToldReplay (call : Call) (turns : ℕ) (content text : List ℕ) : 
   pub tells : Tells call.files schedule text
 
 -- the ending tells whether the program is violated within these bounds, or that memory ran out
-abbrev pub IsDecidedWithin : Bounds → Program → Ending → Type 0
-IsDecidedWithin bounds p (Successful unwind rounds formula log) = Violated p bounds.unwind bounds.rounds → ⊥
-IsDecidedWithin bounds p (Failed kind line schedule) = Violated p bounds.unwind bounds.rounds
+abbrev pub IsDecidedWithin : Bounds → ScopedProgram → Ending → Type 0
+IsDecidedWithin bounds p (Successful unwind rounds formula log) = IsViolatedWithin p bounds.unwind bounds.rounds → ⊥
+IsDecidedWithin bounds p (Failed kind line schedule) = IsViolatedWithin p bounds.unwind bounds.rounds
 IsDecidedWithin bounds p (NotAToken line place) = ⊥
 IsDecidedWithin bounds p (NotAProgram line token) = ⊥
 IsDecidedWithin bounds p (Faulty line rule) = ⊥
@@ -72,7 +71,7 @@ IsDecidedWithin bounds p (ReadFault name) = ⊥
 IsDecidedWithin bounds p OutOfMemory = ⊤
 
 -- the same within the default bounds
-abbrev pub IsDecided : Program → Ending → Type 0
+abbrev pub IsDecided : ScopedProgram → Ending → Type 0
 IsDecided p ending = IsDecidedWithin defaults p ending
 
 -- the ending tells the first token up to and with which no program's spelling begins, or that memory ran out

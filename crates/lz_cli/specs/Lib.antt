@@ -8,5 +8,4 @@ pub mod Ending
 pub mod Command
 pub mod Exactness
 pub mod Refutation
-pub mod Decide
 pub mod Recheck

@@ -1,10 +1,8 @@
--- Trusted: what the bytes of a source file are: no tokens, no program, or a program, which has the first form or another.
-use Rattle.std.specs.Prelude.{◌≡◌, ℕ, List, Some, None}
+-- Trusted: what the bytes of a source file are: no tokens, no program, or a program.
+use Rattle.std.specs.Prelude.{◌≡◌, ℕ, List}
 use Rattle.lz_tree.specs.declared.token.Tokens.{Tokens}
 use Rattle.lz_tree.specs.Tokens.{HasTokens, cut, stopped}
 use Rattle.lz_tree.specs.Trees.{TranslationUnit}
-use Rattle.lz_tree.specs.FirstFormScopes.{Program}
-use Rattle.lz_tree.specs.FirstForm.{first_form}
 use Rattle.lz_parse.specs.Programs.{IsProgram, IsRefusedAt}
 
 -- the bytes have no cut into tokens; the longest cut ends at this place, on this line
@@ -23,15 +21,3 @@ pub record HasTree (bytes : List ℕ) (tree : TranslationUnit) : Type 0 where
   pub tokens : Tokens
   pub are : HasTokens bytes tokens
   pub spelled : IsProgram tokens tree
-
--- the bytes have a tree of the first form, and mean this program
-pub record IsFirstForm (bytes : List ℕ) (p : Program) : Type 0 where
-  pub tree : TranslationUnit
-  pub of : HasTree bytes tree
-  pub form : first_form tree ≡ Some p
-
--- the bytes have a tree of another form
-pub record IsOtherForm (bytes : List ℕ) : Type 0 where
-  pub tree : TranslationUnit
-  pub of : HasTree bytes tree
-  pub form : first_form tree ≡ None

@@ -1,23 +1,20 @@
 //! The top call.
 
-ghost use Rattle.std.specs.Prelude.{◌≡◌, ◌≤◌, ℕ, List, length, IfOk};
+ghost use Rattle.std.specs.Prelude.{◌≡◌, ◌≤◌, ℕ, List, None, length, IfOk};
 ghost use Rattle.lz_cli.specs.CommandLine.{IsCheckName, IsNamed, IsProofName, IsReplayName};
 ghost use Rattle.lz_cli.specs.Report.{report, status_of, IsPrintable};
 ghost use Rattle.lz_base.specs.Limits.{file_limit};
 ghost use Rattle.lz_cli.specs.Limits.{Bounds, checking, replaying};
 ghost use Rattle.lz_cli.specs.Ending.{Call, call_of, IsRunSource, IsVerdict, IsLawful};
-ghost use Rattle.lz_tree.specs.Trees.{TranslationUnit, translation_unit};
+ghost use Rattle.lz_tree.specs.Trees.{TranslationUnit};
 ghost use Rattle.lz_tree.specs.ScopedTrees.{scoped_program};
 ghost use Rattle.lz_tree.specs.Calls.{IsCallOrder};
-ghost use Rattle.lz_tree.specs.FirstFormScopes.{program, IsWellFormed};
-ghost use Rattle.lz_cli.specs.Source.{HasTree, IsFirstForm};
-ghost use Rattle.lz_cli.specs.Admission.{IsAdmitted};
+ghost use Rattle.lz_choices.specs.Choices as choices;
 ghost use Rattle.lz_cli.specs.Admit.{IsRefusedBy, Admits};
 ghost use Rattle.lz_cli.specs.Command.{output_of, IsDeliveredOrCutOff, Answers};
 
 use crate::admit::{Refusal, admit};
 use crate::command_line::{Words, check_name, proof_name, replay_names};
-use crate::decide::{Decided, decide};
 use crate::ending::Ending;
 use crate::evidence::Evidence;
 use crate::limits::{DEFAULT_ROUNDS, REPLAY_ROUNDS, SCHEDULE_LIMIT};
@@ -26,10 +23,11 @@ use crate::refutation::refutation;
 use crate::replaying::follow;
 use crate::report::{MEMORY_REPORT, print, status};
 use lz_base::{FILE_LIMIT, Memory, Name};
-use lz_form::first_form;
+use lz_choices::first_choice;
+use lz_fits::program_fits;
 use lz_outside::{Failed, Folder, ReadError, Sink, read_all, write_all};
-use lz_tree::first_form::Scoped as FirstForm;
-use lz_tree::{Program, Scoped};
+use lz_replay::{Decided, decide};
+use lz_tree::Scoped;
 use std::alloc::Global;
 
 /// How a call ended: the status that the program ends with, and what shows that the verdict is right.
@@ -278,29 +276,47 @@ fn judge(alloc: Global, bytes: &[u8], unwind: u32) -> Result<Ending, Memory>
     ensures printable { IfOk result IsPrintable }
 {
     match admit(alloc, bytes, unwind, DEFAULT_ROUNDS) {
-        Ok(checked) => judge_admitted(alloc, checked.program(), unwind),
+        Ok(checked) => judge_admitted(alloc, checked.scoped(), checked.order(), unwind),
         Err(refusal) => refuse(refusal),
     }
 }
 
-/// The verdict on a program within the limits.
-fn judge_admitted(alloc: Global, program: &Program, unwind: u32) -> Result<Ending, Memory>
-    ensures verdict { IfOk result (λ ending. (bytes : List ℕ) → IsAdmitted (checking unwind) bytes → HasTree bytes (translation_unit program.now) → IsVerdict (checking unwind) bytes ending) }
+/// The verdict on a program within the limits, with an order of its calls. One that has a choice is not built.
+fn judge_admitted(
+    alloc: Global,
+    scoped: &Scoped,
+    order: &[u32],
+    unwind: u32,
+) -> Result<Ending, Memory>
+    requires { IsCallOrder (scoped_program scoped.now).functions order.now }
+    ensures verdict { IfOk result (λ ending. (bytes : List ℕ) (tree : TranslationUnit)
+        → Admits unwind DEFAULT_ROUNDS bytes tree (scoped_program scoped.now) order.now → IsVerdict (checking unwind) bytes ending) }
     ensures printable { IfOk result IsPrintable }
 {
-    match first_form(alloc, program)? {
-        Some(scoped) => judge_form(alloc, &scoped, unwind),
-        None => Ok(Ending::NotBuilt { line: 0 }),
+    match first_choice(scoped) {
+        Some(line) => Ok(Ending::NotBuilt { line }),
+        None => judge_sequential(alloc, scoped, order, unwind),
     }
 }
 
-/// The verdict on a program of the first form.
-fn judge_form(alloc: Global, scoped: &FirstForm, unwind: u32) -> Result<Ending, Memory>
-    requires { IsWellFormed (program scoped.now) }
-    ensures verdict { IfOk result (λ ending. (bytes : List ℕ) → IsAdmitted (checking unwind) bytes → IsFirstForm bytes (program scoped.now) → IsVerdict (checking unwind) bytes ending) }
+/// The verdict on a program without a choice. A program whose numbers do not fit, which takes a longer text than any that
+/// is read, comes to want of memory.
+fn judge_sequential(
+    alloc: Global,
+    scoped: &Scoped,
+    order: &[u32],
+    unwind: u32,
+) -> Result<Ending, Memory>
+    requires order { IsCallOrder (scoped_program scoped.now).functions order.now }
+    requires no_choice { choices.first_choice (scoped_program scoped.now) ≡ None }
+    ensures verdict { IfOk result (λ ending. (bytes : List ℕ) (tree : TranslationUnit)
+        → Admits unwind DEFAULT_ROUNDS bytes tree (scoped_program scoped.now) order.now → IsVerdict (checking unwind) bytes ending) }
     ensures printable { IfOk result IsPrintable }
 {
-    match decide(alloc, scoped)? {
+    if !program_fits(scoped) {
+        return Err(Memory);
+    }
+    match decide(alloc, scoped, order, unwind)? {
         Decided::Holds => {
             let (formula, log) = refutation(alloc)?;
             Ok(Ending::Successful {

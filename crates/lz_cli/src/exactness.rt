@@ -1,40 +1,43 @@
 //! Which endings are lawful where the folder tells the named file and no read of it failed, where the told files lack
 //! it, and where no file is named.
 
-ghost use Rattle.std.specs.Prelude.{◌≡◌, ℕ, ◌<◌, ◌≤◌, List, length};
+ghost use Rattle.std.specs.Prelude.{◌≡◌, ℕ, ◌<◌, ◌≤◌, List, length, Some, None};
 ghost use Rattle.lz_outside.specs.Files.{Lacks};
 ghost use Rattle.lz_tree.specs.declared.token.Tokens.{Tokens};
 ghost use Rattle.lz_tree.specs.Tokens.{HasTokens};
 ghost use Rattle.lz_tree.specs.Trees.{TranslationUnit};
-ghost use Rattle.lz_tree.specs.FirstFormScopes.{Program};
 ghost use Rattle.lz_parse.specs.Programs.{IsProgram, IsRefusedAt};
 ghost use Rattle.lz_model.specs.declared.schedule.Step.{Step};
 ghost use Rattle.lz_model.specs.ScheduleText.{IsScheduleText, IsNoSchedule};
 ghost use Rattle.lz_resolve.specs.ScopedPrograms.{scoped_of};
+ghost use Rattle.lz_choices.specs.Choices.{first_choice};
 ghost use Rattle.lz_replay.specs.declared.answer.Replayed.{Replayed};
 ghost use Rattle.lz_replay.specs.Replays.{Says};
 ghost use Rattle.lz_cli.specs.declared.ending.Ending.{Ending};
 ghost use Rattle.lz_cli.specs.CommandLine.{IsFileName, IsProofName, IsSourceName};
 ghost use Rattle.lz_base.specs.Limits.{file_limit};
-ghost use Rattle.lz_cli.specs.Source.{HasNoTokens, IsFirstForm, IsOtherForm};
+ghost use Rattle.lz_cli.specs.Source.{HasNoTokens};
 ghost use Rattle.lz_cli.specs.Limits.{Bounds, defaults, checking, replaying, schedule_limit};
 ghost use Rattle.lz_cli.specs.Admission.{IsFaulty, HasManySlots, HasHighCost, IsAdmitted};
 ghost use Rattle.lz_cli.specs.Ending.{Call, IsLawful, NamesNoFile};
 ghost use Rattle.lz_cli.specs.Recheck.{proof_limit};
 ghost use Rattle.lz_cli.specs.Exactness.{IsToldFile, IsToldCheck, IsToldRun, IsToldSource, IsToldReplay, IsToldProof, IsAnswer, IsDecided, IsDecidedWithin, IsRefusal, IsEither, IsRunAnswer};
 
+use lz_model::broken_in_its_rounds;
 use lz_parse::one_program;
 use lz_replay::{one_answer, one_schedule};
 
 /// What a lawful ending is, in every call where the folder tells the named file and no read failed, and where
 /// no file is named or the told files lack it.
 pub fn endings_are_exact()
-    // A file of the first form, within the limits, which breaks no rule, is decided.
-    ensures decided { (call : Call) (content : List ℕ) (p : Program) (ending : Ending) → IsToldFile call content
-        → length content ≤ file_limit → IsAdmitted defaults content → IsFirstForm content p → IsLawful call ending → IsDecided p ending }
-    // A file whose tree has another form, within the limits, which breaks no rule, is not built.
-    ensures not_built { (call : Call) (content : List ℕ) (ending : Ending) → IsToldFile call content
-        → length content ≤ file_limit → IsAdmitted defaults content → IsOtherForm content → IsLawful call ending → IsEither (Ending.NotBuilt 0) ending }
+    // A file whose program breaks no rule, is within the limits and has no choice is decided.
+    ensures decided { (call : Call) (content : List ℕ) (ending : Ending) → IsToldFile call content
+        → length content ≤ file_limit → (admitted : IsAdmitted defaults content) → first_choice (scoped_of admitted.tree) ≡ None
+        → IsLawful call ending → IsDecided (scoped_of admitted.tree) ending }
+    // A file whose program breaks no rule, is within the limits and has its first choice on this line is not built, and this line is told.
+    ensures not_built { (call : Call) (content : List ℕ) (line : ℕ) (ending : Ending) → IsToldFile call content
+        → length content ≤ file_limit → (admitted : IsAdmitted defaults content) → first_choice (scoped_of admitted.tree) ≡ Some line
+        → IsLawful call ending → IsEither (Ending.NotBuilt line) ending }
     // Of a file whose program breaks a rule, the first one is told,
     ensures faulty { (call : Call) (content : List ℕ) (line rule : ℕ) (ending : Ending) → IsToldFile call content
         → length content ≤ file_limit → IsFaulty content line rule → IsLawful call ending
@@ -76,14 +79,14 @@ pub fn endings_are_exact()
     // Words that name no file are not built.
     ensures no_file { (call : Call) (ending : Ending) → NamesNoFile call
         → IsLawful call ending → IsEither (Ending.NotBuilt 0) ending }
-    // Of a file whose program is decided with another number of turns the same is true within it: one of the first form is decided,
-    ensures decided_within { (call : Call) (turns : ℕ) (content : List ℕ) (p : Program) (ending : Ending) → IsToldCheck call turns content
-        → length content ≤ file_limit → IsAdmitted (checking turns) content → IsFirstForm content p → IsLawful call ending
-        → IsDecidedWithin (checking turns) p ending }
-    // and one of another form is not built.
-    ensures not_built_within { (call : Call) (turns : ℕ) (content : List ℕ) (ending : Ending) → IsToldCheck call turns content
-        → length content ≤ file_limit → IsAdmitted (checking turns) content → IsOtherForm content → IsLawful call ending
-        → IsEither (Ending.NotBuilt 0) ending }
+    // Of a file whose program is decided with another number of turns the same is true within it: one without a choice is decided,
+    ensures decided_within { (call : Call) (turns : ℕ) (content : List ℕ) (ending : Ending) → IsToldCheck call turns content
+        → length content ≤ file_limit → (admitted : IsAdmitted (checking turns) content) → first_choice (scoped_of admitted.tree) ≡ None
+        → IsLawful call ending → IsDecidedWithin (checking turns) (scoped_of admitted.tree) ending }
+    // and one that has its first choice on this line is not built.
+    ensures not_built_within { (call : Call) (turns : ℕ) (content : List ℕ) (line : ℕ) (ending : Ending) → IsToldCheck call turns content
+        → length content ≤ file_limit → (admitted : IsAdmitted (checking turns) content) → first_choice (scoped_of admitted.tree) ≡ Some line
+        → IsLawful call ending → IsEither (Ending.NotBuilt line) ending }
     // Of any source file, whose program is decided or run, it is told as above that a rule is broken,
     ensures source_faulty { (call : Call) (bounds : Bounds) (content : List ℕ) (line rule : ℕ) (ending : Ending)
         → IsToldSource call bounds content → length content ≤ file_limit → IsFaulty content line rule → IsLawful call ending
@@ -133,6 +136,7 @@ pub fn endings_are_exact()
         → IsToldRun call turns schedule content → length content ≤ file_limit → IsAdmitted (replaying turns) content
         → Lacks call.files schedule → IsLawful call ending → IsEither (Ending.ReadFault schedule) ending }
 {
+    broken_in_its_rounds();
     one_program();
     one_schedule();
     one_answer();

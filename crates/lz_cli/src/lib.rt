@@ -4,7 +4,6 @@
 mod admit;
 mod command;
 mod command_line;
-mod decide;
 mod ending;
 mod evidence;
 mod exactness;

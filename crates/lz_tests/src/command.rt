@@ -54,15 +54,19 @@ fn has_proof(ended: &Ended) -> bool {
     matches!(&ended.evidence, Evidence::Proof { formula: _, log: _ })
 }
 
-/// The report of a success, and that of a form that is not built.
-const SUCCESS: &str = "SUCCESSFUL unwind 2 rounds 2\n";
+/// The report of a success.
+pub const SUCCESS: &str = "SUCCESSFUL unwind 2 rounds 2\n";
 
-pub const NOT_BUILT: &str = "NOTBUILT line 0\n";
+/// That of words that no request names.
+const NOT_BUILT: &str = "NOTBUILT line 0\n";
+
+/// That of a program that has its first choice on line 1.
+pub const HAS_CHOICE: &str = "NOTBUILT line 1\n";
 
 /// A text, the report and the status of its file, and the reason of the row.
 pub type Row = (&'static str, &'static str, u8, &'static str);
 
-/// Files of the first form.
+/// Assignments and assertions.
 const VERDICTS: [Row; 12] = [
     ("int main(void){}", SUCCESS, 0, "no check at all"),
     (
@@ -133,105 +137,353 @@ const VERDICTS: [Row; 12] = [
     ),
 ];
 
-/// Files whose programs break no rule, but have another form.
-const OTHER_FORMS: [Row; 19] = [
-    ("int main(void) { return 0; }", NOT_BUILT, 12, "no `return`"),
+/// Operators, constants and objects.
+const EXPRESSIONS: [Row; 10] = [
     (
-        "int x; int main(void) { x = 01; }",
-        NOT_BUILT,
-        12,
-        "an octal constant",
+        "int x; int main(void) { x = 01 + '\\0' + 1u; assert(x == 2); }",
+        SUCCESS,
+        0,
+        "octal, character and unsigned constants",
     ),
     (
-        "int x; int main(void) { x = 1u; }",
-        NOT_BUILT,
-        12,
-        "a suffix",
+        "int x;\nint main(void) {\n  assert(65536u * 65536u == 0u);\n  assert(!(-1 < 1u));\n  assert((-2147483647 - 1) / -1 == -2147483647 - 1);\n  assert(-7 / 2 == -3 && -7 % 2 == -1);\n  assert(-8 >> 1 == -4 && 1 << 33 == 2);\n  assert(7 - 3 - 2 == 2);\n  if (1) if (0) x = 1; else x = 2;\n  assert(x == 2);\n}\n",
+        SUCCESS,
+        0,
+        "words and how operators group",
     ),
     (
-        "int x; int main(void) { x = '\\0'; }",
-        NOT_BUILT,
-        12,
-        "a 0 that no digit writes is decimal",
-    ),
-    (
-        "#define N (3)\nint x; int main(void) { x = N; }",
-        NOT_BUILT,
-        12,
-        "parentheses are nodes",
-    ),
-    (
-        "int x; int main(void) { x = 1 + +2; }",
-        NOT_BUILT,
-        12,
-        "an operand has no sign",
-    ),
-    (
-        "int x; int main(void) { x = 1 - 2; }",
-        NOT_BUILT,
-        12,
-        "no `-`",
-    ),
-    (
-        "int x; int main(void) { x = 1 + (2 + 3); }",
-        NOT_BUILT,
-        12,
-        "a sum that groups to the right",
-    ),
-    (
-        "int x; int main(void) { x += 1; }",
-        NOT_BUILT,
-        12,
-        "another assignment",
+        "int x; int main(void) { x += 3; x <<= 2; x = 20 - (x - +5); assert(x == 13); }",
+        SUCCESS,
+        0,
+        "other assignments and operators",
     ),
     (
         "int x; int main(void) { assert(x); }",
-        NOT_BUILT,
-        12,
-        "a check without `==`",
+        "FAILED\ncheck assert line 1\nrounds 1\nstep 0 0\nstep 0 0\n",
+        1,
+        "a check of a value itself",
     ),
     (
-        "int x; int main(void) { abort(); }",
-        NOT_BUILT,
-        12,
-        "another known name",
+        "int z; int main(void) { return 1 / z; }",
+        "FAILED\ncheck divzero line 1\nrounds 1\nstep 0 0\nstep 0 0\n",
+        1,
+        "a division by 0",
+    ),
+    (
+        "int a[4]; int main(void) { a[4] = 1; }",
+        "FAILED\ncheck bounds line 1\nrounds 1\nstep 0 0\n",
+        1,
+        "an index past the end",
+    ),
+    (
+        "int a[3] = { 1, 2 }; int main(void) { int b[2] = { 7 }; assert(a[1] + a[2] == 2 && b[1] == 0); }",
+        SUCCESS,
+        0,
+        "elements that a list leaves out are 0",
+    ),
+    (
+        "int x = 1 + 1, y; static unsigned z; int main() { assert(x == 2 && y == z); }",
+        SUCCESS,
+        0,
+        "constants are computed, and objects start at 0",
     ),
     (
         "int x; int main(void) { x = 1; } int y;",
-        NOT_BUILT,
-        12,
+        SUCCESS,
+        0,
         "an object behind `main`",
     ),
     (
-        "int x, y; int main(void) {}",
-        NOT_BUILT,
-        12,
-        "two declarators",
+        "int x = 5; int main(void) { int i = x++; assert(i == 5); assert(--x == i); assert(x-- < i); }",
+        "FAILED\ncheck assert line 1\nrounds 1\nstep 0 0\nstep 0 0\nstep 0 0\nstep 0 0\nstep 0 0\nstep 0 0\nstep 0 0\nstep 0 0\nstep 0 0\n",
+        1,
+        "steps before and behind",
     ),
-    ("static int x; int main(void) {}", NOT_BUILT, 12, "`static`"),
-    (
-        "unsigned x; int main(void) {}",
-        NOT_BUILT,
-        12,
-        "another type",
-    ),
-    (
-        "signed int x; int main(void) {}",
-        NOT_BUILT,
-        12,
-        "another spelling of the type",
-    ),
-    ("int x[2]; int main(void) {}", NOT_BUILT, 12, "an array"),
-    (
-        "int x = 1 + 1; int main(void) {}",
-        NOT_BUILT,
-        12,
-        "an initializer that is no constant",
-    ),
-    ("int main() {}", NOT_BUILT, 12, "no `void`"),
 ];
 
-/// Files near the first form that break a rule.
+/// Statements and calls.
+const STATEMENTS: [Row; 15] = [
+    (
+        "int main(void) { return 0; }",
+        SUCCESS,
+        0,
+        "a return ends the process",
+    ),
+    (
+        "int main(void) { return 0; assert(0); }",
+        SUCCESS,
+        0,
+        "and nothing comes behind it",
+    ),
+    (
+        "int main(void) { if (0) assert(0); else return 1; assert(0); }",
+        SUCCESS,
+        0,
+        "the branch that is taken",
+    ),
+    (
+        "int x; int main(void) { if (x || !x && x + 1) ; else assert(0); return x ? 1 / x : 0; }",
+        SUCCESS,
+        0,
+        "operands that are not needed",
+    ),
+    (
+        "int main(void) { int i = 0; while (i < 3) i = i + 1; assert(i != 3); }",
+        SUCCESS,
+        0,
+        "a loop that is cut comes to no check",
+    ),
+    (
+        "int main(void) { int i = 0; while (i < 2) i = i + 1; assert(i != 2); }",
+        "FAILED\ncheck assert line 1\nrounds 1\nstep 0 0\n",
+        1,
+        "a loop of as many turns as there may be",
+    ),
+    (
+        "int main(void) { int i = 0; do i++; while (i < 2); assert(i != 2); }",
+        "FAILED\ncheck assert line 1\nrounds 1\nstep 0 0\n",
+        1,
+        "the test behind the last turn",
+    ),
+    (
+        "int main(void) { int i = 0; do i++; while (i < 3); assert(0); }",
+        SUCCESS,
+        0,
+        "a third turn is cut where it would begin",
+    ),
+    (
+        "int main(void) { int n = 0; for (int i = 0; i < 2; i++) for (int j = 0; j < 2; j++) n++; assert(n != 4); }",
+        "FAILED\ncheck assert line 1\nrounds 1\nstep 0 0\n",
+        1,
+        "turns count anew each time that a loop is entered",
+    ),
+    (
+        "int main(void) { for (;;) { break; } while (1) { assert(0); } }",
+        "FAILED\ncheck assert line 1\nrounds 1\nstep 0 0\n",
+        1,
+        "a loop that is left, and a check in one without an end",
+    ),
+    (
+        "int main(void) { int i = 0; for (; ; i++) { if (i < 1) continue; break; } assert(i != 1); }",
+        "FAILED\ncheck assert line 1\nrounds 1\nstep 0 0\n",
+        1,
+        "the rest of a turn is passed over",
+    ),
+    (
+        "int f(int a) {\n assert(a == 3);\n return a + 1; }\nint main(void) {\n assert(f(3) == 5); }",
+        "FAILED\ncheck assert line 5\nrounds 1\nstep 0 0\nstep 0 0\n",
+        1,
+        "a call with its argument and its result",
+    ),
+    (
+        "int f(void) { }\nvoid g(int a) { if (a) return; assert(0); }\nint main(void) { g(1); g(f()); }",
+        "FAILED\ncheck assert line 2\nrounds 1\nstep 0 0\n",
+        1,
+        "a function that comes to its end gives 0",
+    ),
+    (
+        "int f(unsigned a) { return a; } int main(void) { assert(f(-1) == -1); assert(f(1) / f(0)); }",
+        "FAILED\ncheck divzero line 1\nrounds 1\nstep 0 0\nstep 0 0\n",
+        1,
+        "the check of a divisor comes before that around it",
+    ),
+    (
+        "int reach_error(void) { return 1; } int main(void) { reach_error(); }",
+        SUCCESS,
+        0,
+        "a file's own `reach_error`",
+    ),
+];
+
+/// Calls of known names, of a single thread.
+const KNOWN_NAMES: [Row; 16] = [
+    (
+        "int main(void) { reach_error(); }",
+        "FAILED\ncheck reached line 1\nrounds 1\nstep 0 0\n",
+        1,
+        "a call that is not to be reached",
+    ),
+    (
+        "int main(void) {\n __VERIFIER_error(); }",
+        "FAILED\ncheck reached line 2\nrounds 1\nstep 0 0\n",
+        1,
+        "the same by another name",
+    ),
+    (
+        "int x; int main(void) { __VERIFIER_assume(x); assert(0); }",
+        SUCCESS,
+        0,
+        "an assumption that fails blocks the thread",
+    ),
+    (
+        "int x; int main(void) { __VERIFIER_assume(!x); assert(0); }",
+        "FAILED\ncheck assert line 1\nrounds 1\nstep 0 0\nstep 0 0\nstep 0 0\n",
+        1,
+        "one that holds is a step",
+    ),
+    (
+        "int main(void) { abort(); assert(0); }",
+        SUCCESS,
+        0,
+        "`abort` assumes 0",
+    ),
+    (
+        "int f(void) { pthread_exit(0); return 0; } int main(void) { f(); assert(0); }",
+        SUCCESS,
+        0,
+        "the thread ends, in a called function too",
+    ),
+    (
+        "int x; int main(void) { printf(\"%d\", x); assert(0); }",
+        "FAILED\ncheck assert line 1\nrounds 1\nstep 0 0\nstep 0 0\n",
+        1,
+        "`printf` evaluates its arguments",
+    ),
+    (
+        "pthread_mutex_t m; int main(void) { pthread_mutex_lock(&m); pthread_mutex_lock(&m); assert(0); }",
+        SUCCESS,
+        0,
+        "a thread that locks what it owns is blocked for good",
+    ),
+    (
+        "pthread_mutex_t m; int main(void) { pthread_mutex_unlock(&m); }",
+        "FAILED\ncheck unlock line 1\nrounds 1\nstep 0 0\n",
+        1,
+        "a mutex that it does not own",
+    ),
+    (
+        "pthread_mutex_t m[2]; int main(void) { pthread_mutex_lock(&m[1]); pthread_mutex_unlock(&m[1]); pthread_mutex_unlock(&m[0]); }",
+        "FAILED\ncheck unlock line 1\nrounds 1\nstep 0 0\nstep 0 0\nstep 0 0\nstep 0 0\nstep 0 0\nstep 0 0\n",
+        1,
+        "each index is checked, and the wrong one of two mutexes breaks",
+    ),
+    (
+        "pthread_mutex_t m; int main(void) { pthread_mutex_lock(&m); pthread_mutex_init(&m, 0); pthread_mutex_lock(&m); assert(0); }",
+        "FAILED\ncheck assert line 1\nrounds 1\nstep 0 0\nstep 0 0\nstep 0 0\nstep 0 0\n",
+        1,
+        "a mutex is made anew",
+    ),
+    (
+        "pthread_mutex_t m; pthread_cond_t c; int main(void) { pthread_cond_wait(&c, &m); }",
+        "FAILED\ncheck wait line 1\nrounds 1\nstep 0 0\n",
+        1,
+        "a wait without the mutex",
+    ),
+    (
+        "pthread_mutex_t m; pthread_cond_t c; int main(void) { pthread_mutex_lock(&m); pthread_cond_wait(&c, &m); assert(0); }",
+        SUCCESS,
+        0,
+        "nobody wakes the only thread",
+    ),
+    (
+        "pthread_cond_t c; int main(void) { pthread_cond_signal(&c); pthread_cond_broadcast(&c); assert(0); }",
+        "FAILED\ncheck assert line 1\nrounds 1\nstep 0 0\nstep 0 0\nstep 0 0\n",
+        1,
+        "a signal where nobody waits has the choice 0",
+    ),
+    (
+        "pthread_t t; int main(void) { pthread_join(t, NULL); }",
+        "FAILED\ncheck join line 1\nrounds 1\nstep 0 0\n",
+        1,
+        "an object that holds no thread",
+    ),
+    (
+        "int main(void) { __VERIFIER_atomic_begin(); __VERIFIER_atomic_begin(); __VERIFIER_atomic_end(); __VERIFIER_atomic_end(); assert(0); }",
+        "FAILED\ncheck assert line 1\nrounds 1\nstep 0 0\nstep 0 0\nstep 0 0\nstep 0 0\nstep 0 0\n",
+        1,
+        "a section of a single thread bars nobody",
+    ),
+];
+
+/// Programs with a choice: the line of the first is told.
+const CHOICES: [Row; 14] = [
+    (
+        "int main(void) {\n  int x = __VERIFIER_nondet_int();\n  assert(x + 1 > x);\n}\n",
+        "NOTBUILT line 2\n",
+        12,
+        "a free input",
+    ),
+    (
+        "int x;\nvoid *f(void *a) { x = 1; assert(x == 1); return NULL; }\nvoid *g(void *a) { x = 0; return NULL; }\nint main(void) {\n  pthread_t t, u;\n  pthread_create(&t, NULL, f, NULL);\n  pthread_create(&u, NULL, g, NULL);\n  pthread_join(t, NULL);\n}\n",
+        "NOTBUILT line 6\n",
+        12,
+        "the creation of a thread, and not its object",
+    ),
+    (
+        "int main(void) {\n int y = 1;\n int x;\n return x; }",
+        "NOTBUILT line 3\n",
+        12,
+        "an object without an initializer",
+    ),
+    (
+        "int main(void) {\n int y = 1,\n x[2],\n z; }",
+        "NOTBUILT line 3\n",
+        12,
+        "each declarator by itself",
+    ),
+    (
+        "int main(void) {\n int x[2] = { 1 }; unsigned y = 0; pthread_t t; return\n __VERIFIER_nondet_uint(); }",
+        "NOTBUILT line 3\n",
+        12,
+        "a list that is short, and a thread object, are none",
+    ),
+    (
+        "void g(void) {\n __VERIFIER_nondet_int(); }\nint main(void) { }",
+        "NOTBUILT line 2\n",
+        12,
+        "in a function that is never called",
+    ),
+    (
+        "int x; void g(int a, int b);\nint main(void) { g(1,\n 2); } void g(int a, int b) { while (a)\n int k; }",
+        "NOTBUILT line 4\n",
+        12,
+        "objects at file scope and parameters are none",
+    ),
+    (
+        "int main(void) {\n return 0;\n assert(0);\n int x; }",
+        "NOTBUILT line 4\n",
+        12,
+        "where no run comes",
+    ),
+    (
+        "int main(void) {\n assert(0); if (0)\n for (int x; ;\n __VERIFIER_nondet_int()) ; }",
+        "NOTBUILT line 3\n",
+        12,
+        "also behind a check that breaks",
+    ),
+    (
+        "int f(int a) { return a; }\nint main(void) { for (int x = f(\n __VERIFIER_nondet_int()); x;\n f(__VERIFIER_nondet_int()))\n int y; }",
+        "NOTBUILT line 3\n",
+        12,
+        "the head of a loop comes before its body",
+    ),
+    (
+        "int main(void) { do {\n int x; } while (\n __VERIFIER_nondet_int()); }",
+        "NOTBUILT line 2\n",
+        12,
+        "but the test of a `do` behind it",
+    ),
+    (
+        "void *f(void *a) { return a; } pthread_t t[2]; int main(void) {\n pthread_create(&t[\n __VERIFIER_nondet_int()], 0, f, 0); }",
+        "NOTBUILT line 2\n",
+        12,
+        "a call before its arguments",
+    ),
+    (
+        "int a[2]; int main(void) { a[0] +=\n a[\n __VERIFIER_nondet_int() ? 1 : 0]; }",
+        "NOTBUILT line 3\n",
+        12,
+        "an index in an operand",
+    ),
+    (
+        "int main(void) { if (1) { } else {\n l: {\n int x; } } }",
+        "NOTBUILT line 3\n",
+        12,
+        "a block behind a label in an `else`",
+    ),
+];
+
+/// Files that break a rule.
 const FAULTY: [Row; 10] = [
     (
         "int main(void) { x = 1; }",
@@ -374,7 +626,10 @@ pub fn compare_rows(rt: &impl Abort, alloc: Global, rows: &[Row]) -> Result<(), 
 #[test]
 fn reports_of_files(rt: HostRuntime) -> Result<(), Fail> {
     compare_rows(&rt, rt.alloc(), &VERDICTS)?;
-    compare_rows(&rt, rt.alloc(), &OTHER_FORMS)?;
+    compare_rows(&rt, rt.alloc(), &EXPRESSIONS)?;
+    compare_rows(&rt, rt.alloc(), &STATEMENTS)?;
+    compare_rows(&rt, rt.alloc(), &KNOWN_NAMES)?;
+    compare_rows(&rt, rt.alloc(), &CHOICES)?;
     compare_rows(&rt, rt.alloc(), &FAULTY)?;
     compare_rows(&rt, rt.alloc(), &REFUSED)
 }
@@ -425,6 +680,82 @@ fn reports_of_words(rt: HostRuntime) -> Result<(), Fail> {
         let told = call(rt.alloc(), words, b"int main(void){}", AMPLE)
             .ok()
             .ok_or("memory")?;
+        compare(&rt, &told, report, status, reason);
+    }
+    Ok(())
+}
+
+/// The turns of a loop, a text, the report, the status, and the reason of the row.
+const TURNS: [(&str, &str, &str, u8, &str); 8] = [
+    (
+        "3",
+        "int main(void) { int i = 0; while (i < 3) i = i + 1; assert(i != 3); }",
+        "FAILED\ncheck assert line 1\nrounds 1\nstep 0 0\n",
+        1,
+        "three turns come to the check",
+    ),
+    (
+        "1",
+        "int main(void) { do { } while (0); while (1) ; assert(0); }",
+        "SUCCESSFUL unwind 1 rounds 2\n",
+        0,
+        "a single turn",
+    ),
+    (
+        "1",
+        "int main(void) { do { } while (0); assert(0); }",
+        "FAILED\ncheck assert line 1\nrounds 1\nstep 0 0\n",
+        1,
+        "which a `do` has in any case",
+    ),
+    (
+        "100",
+        "int main(void) { int i = 0; while (i < 100) i++; assert(i != 100); }",
+        "FAILED\ncheck assert line 1\nrounds 1\nstep 0 0\n",
+        1,
+        "the most turns",
+    ),
+    (
+        "100",
+        "int main(void) { while (1) while (1) while (1) while (1) ; }",
+        "LIMIT cost 417874751488 over 10000000\n",
+        5,
+        "four loops, one in the other",
+    ),
+    (
+        "17",
+        "void *f(void *a) { return NULL; } int main(void) { pthread_t t; while (1) pthread_create(&t, NULL, f, NULL); }",
+        "LIMIT slots 17 over 16\n",
+        5,
+        "a thread a turn",
+    ),
+    (
+        "16",
+        "void *f(void *a) { return NULL; } int main(void) { pthread_t t; while (1) pthread_create(&t, NULL, f, NULL); }",
+        HAS_CHOICE,
+        12,
+        "as many as there may be",
+    ),
+    (
+        "3",
+        "int x;\nint main(void) {\n int y; return y; }",
+        "NOTBUILT line 3\n",
+        12,
+        "a choice, whatever the turns",
+    ),
+];
+
+#[test]
+fn reports_within_turns(rt: HostRuntime) -> Result<(), Fail> {
+    for (turns, text, report, status, reason) in TURNS {
+        let told = call(
+            rt.alloc(),
+            &["--unwind", turns, "a.c"],
+            text.as_bytes(),
+            AMPLE,
+        )
+        .ok()
+        .ok_or("memory")?;
         compare(&rt, &told, report, status, reason);
     }
     Ok(())
@@ -546,9 +877,18 @@ fn limits(rt: HostRuntime) -> Result<(), Fail> {
             100,
             " + 1",
             "; }",
-            NOT_BUILT,
-            12,
-            "an operand too many",
+            SUCCESS,
+            0,
+            "and one more",
+        ),
+        (
+            "int main(void) { return ",
+            197,
+            "(",
+            "0))))))))))))))))))))))))))))))))))))))))))))))))))))))))))))))))))))))))))))))))))))))))))))))))))))))))))))))))))))))))))))))))))))))))))))))))))))))))))))))))))))))))))))))))))))))))))))))))))))); }",
+            SUCCESS,
+            0,
+            "the highest node",
         ),
         (
             "int main(void) { return ",

@@ -5,7 +5,7 @@ use Rattle.lz_cli.proofs.SourceLemmas.{one_refused}
 use Rattle.lz_cli.proofs.exactness.endings_are_exact.Goals as goal
 
 pub returns-clause-decided : goal.returns-clause-decided
-returns-clause-decided c = decided_ends c.one_program.ensures
+returns-clause-decided c = decided_ends c.one_program.ensures c.broken_in_its_rounds.ensures
 
 pub returns-clause-not_built : goal.returns-clause-not_built
 returns-clause-not_built c = not_built_ends c.one_program.ensures
@@ -47,7 +47,7 @@ pub returns-clause-no_file : goal.returns-clause-no_file
 returns-clause-no_file c = no_file_ends
 
 pub returns-clause-decided_within : goal.returns-clause-decided_within
-returns-clause-decided_within c = decided_within c.one_program.ensures
+returns-clause-decided_within c = decided_within c.one_program.ensures c.broken_in_its_rounds.ensures
 
 pub returns-clause-not_built_within : goal.returns-clause-not_built_within
 returns-clause-not_built_within c = not_built_within c.one_program.ensures
