@@ -1,14 +1,15 @@
 -- The hints of the analysis, and what a new clause rules out.
-use Rattle.std.proofs.Common.{◌≡◌, ℕ, zero, suc, ◌⊎◌, inl, inr, ⊎_elim, List, [], ◌∷◌, get_or, refl, sym, subst, arith}
+use Rattle.std.proofs.Common.{◌≡◌, ℕ, suc, ◌⊎◌, inl, inr, ⊎_elim, List, [], ◌∷◌, get_or, refl, sym, subst, arith}
 use Rattle.std.specs.List.{All, Contains}
 use Rattle.std.proofs.lemmas.List.Elements.{All-contains, All-cons, All-nil, Contains-get_or}
 use Rattle.lz_cnf.specs.declared.clause.Lit.{Lit}
 use Rattle.lz_cnf.specs.Models.{negated}
 use Rattle.lz_cnf.specs.Partial.{IsFalseLit, IsConsistent, IsOpen, IsQuiet, IsNamed}
+use Rattle.lz_cnf.proofs.LitLemmas.{negated-negated}
 use Rattle.lz_log.specs.Refutation.{LeadsToFalse}
 use Rattle.lz_log.specs.Newness.{IsNewClause}
+use Rattle.lz_log.proofs.RefutationLemmas.{named_has}
 use Rattle.lz_analyze.specs.Walks.{LeadsFrom}
-use Rattle.lz_prop.proofs.LitLemmas.{negated-negated}
 
 in_first : (lit : Lit) (rest : List Lit) → Contains (lit ∷ rest) lit
 in_first lit rest = (0, omega arith, refl)
@@ -48,21 +49,15 @@ resolved_leads true_ known before after reason next hints lit clause consistent 
 
 -- ---- where nothing is unit or false, no hints lead to a false clause
 
-named_at : (P : List Lit → Type 0) (known : List (List Lit)) (number : ℕ) (clause : List Lit) → All P known → IsNamed known number clause → P clause
-named_at P known zero clause all named = absurd named
-named_at P [] (suc k) clause all named = absurd cc
-named_at P (first ∷ rest) (suc zero) clause all named = let same : first ≡ clause = cc in subst P same (all 0 first (omega arith))
-named_at P (first ∷ rest) (suc (suc k)) clause all named = named_at P rest (suc k) clause (λ j d lt. all (suc j) d (omega arith)) named
-
 pub quiet_never_leads : (true_ : List Lit) (known : List (List Lit)) (hints : List ℕ) (false_ : List Lit) → IsQuiet true_ known → All (IsFalseLit true_) false_ → LeadsToFalse known false_ hints → ⊥
 quiet_never_leads true_ known [] false_ quiet are leads = leads
 quiet_never_leads true_ known (last ∷ []) false_ quiet are leads =
-    (named_at (IsOpen true_) known last leads.0 quiet leads.1).not_false
+    (named_has (IsOpen true_) known last leads.0 quiet leads.1).not_false
     (λ k d lt. All-contains (IsFalseLit true_) false_ (get_or leads.0 k d) are (leads.2 k d lt))
 quiet_never_leads true_ known (hint ∷ next ∷ hints) false_ quiet are leads =
     let clause = leads.0 in
     let unit = leads.1 in
-    let open_ = named_at (IsOpen true_) known hint clause quiet leads.2 in
+    let open_ = named_has (IsOpen true_) known hint clause quiet leads.2 in
     let others : All (λ l. (l ≡ unit) ⊎ IsFalseLit true_ l) clause = λ k d lt. ⊎_elim
     (λ same. inl same)
     (λ h. inr (All-contains (IsFalseLit true_) false_ (get_or clause k d) are h))

@@ -7,9 +7,10 @@ use Rattle.std.proofs.lemmas.List.Elements.{All-contains, All-cons, All-nil, All
 use Rattle.lz_cnf.specs.declared.clause.Lit.{Lit}
 use Rattle.lz_cnf.specs.Models.{variable_of, negated}
 use Rattle.lz_cnf.specs.Partial.{IsFalseLit, IsUnitClause}
+use Rattle.lz_cnf.proofs.LitLemmas.{variable_of-negated, negated-negated}
 use Rattle.lz_log.specs.Refutation.{LeadsToFalse, FollowsBy}
 use Rattle.lz_prop.specs.Trail.{Entry, TrailState, IsTrail, IsFalseNamed, HoldsClause, IsApart, WasOpen, literals, gone_back, entry_of, level_in}
-use Rattle.lz_prop.proofs.LitLemmas.{variable_of-negated, negated-negated, Contains-map, Contains-from_map}
+use Rattle.lz_prop.proofs.LitLemmas.{Contains-map, Contains-from_map}
 use Rattle.lz_prop.proofs.EntryLemmas.{one_entry, entry_held, set_consistent}
 use Rattle.lz_analyze.specs.Learnt.{IsFalseAt, IsLearnt}
 use Rattle.lz_analyze.specs.Walks.{is_open, IsWalk}
@@ -17,10 +18,11 @@ use Rattle.lz_analyze.specs.Walking.{IsTodo}
 use Rattle.lz_analyze.specs.Highest.{IsHighest}
 use Rattle.lz_analyze.specs.LearntFrom.{IsLearntFrom}
 use Rattle.lz_log.specs.Newness.{IsNewClause}
+use Rattle.lz_log.proofs.RefutationLemmas.{same_named}
 use Rattle.lz_analyze.proofs.LearntLemmas.{learnt_is_new, learnt_was_open, learnt_is_unit}
 use Rattle.lz_analyze.proofs.LevelLemmas.{conflict_at_level}
 use Rattle.lz_analyze.proofs.WalkLemmas.{last_open_leads, none_counted, marked_is}
-use Rattle.lz_analyze.proofs.WalkingLemmas.{open_entry, same_named}
+use Rattle.lz_analyze.proofs.WalkingLemmas.{open_entry}
 
 -- ---- false literals
 

@@ -1,11 +1,12 @@
 -- What a conflict tells of the present level.
-use Rattle.std.proofs.Common.{◌≡◌, ℕ, zero, suc, ◌-◌, ◌<◌, ◌≤◌, ◌⊎◌, inl, inr, ltb, List, [], ◌∷◌, length, get_or, None, refl, subst, arith}
+use Rattle.std.proofs.Common.{◌≡◌, ℕ, suc, ◌-◌, ◌<◌, ◌≤◌, ◌⊎◌, inl, inr, ltb, List, [], ◌∷◌, length, get_or, None, refl, subst, arith}
 use Rattle.std.specs.List.{All, Contains}
 use Rattle.std.proofs.lemmas.Bool.{cases_lt, lt-ltb}
 use Rattle.std.proofs.lemmas.List.Elements.{All-contains, All-cons}
 use Rattle.lz_cnf.specs.declared.clause.Lit.{Lit}
 use Rattle.lz_cnf.specs.Models.{negated}
-use Rattle.lz_cnf.specs.Partial.{IsFalseLit, IsOpen, IsNamed}
+use Rattle.lz_cnf.specs.Partial.{IsFalseLit, IsOpen}
+use Rattle.lz_log.proofs.RefutationLemmas.{named_has}
 use Rattle.lz_prop.specs.Trail.{Entry, TrailState, IsTrail, IsFalseNamed, at_decision}
 use Rattle.lz_analyze.specs.Learnt.{IsFalseAt}
 use Rattle.lz_prop.proofs.LitLemmas.{Contains-map, Contains-from_map, Contains-filter}
@@ -22,19 +23,13 @@ each_or_some P Q (x ∷ xs) all =
       ]
     ]
 
-pub named_at : (P : List Lit → Type 0) (known : List (List Lit)) (number : ℕ) (clause : List Lit) → All P known → IsNamed known number clause → P clause
-named_at P known zero clause all named = absurd named
-named_at P [] (suc k) clause all named = absurd cc
-named_at P (first ∷ rest) (suc zero) clause all named = let same : first ≡ clause = cc in subst P same (all 0 first (omega arith))
-named_at P (first ∷ rest) (suc (suc k)) clause all named = named_at P rest (suc k) clause (λ j d lt. all (suc j) d (omega arith)) named
-
 -- a false clause has a literal that is false at the present level, if that isn't 0
 pub conflict_at_level : (s : TrailState) (number : ℕ) → IsTrail s → 0 < s.level → (false_ : IsFalseNamed s number) → (lit : Lit) × Contains false_.0 lit × IsFalseAt s.set (λ level. level ≡ s.level) lit
 conflict_at_level s number trail positive false_ =
     let clause = false_.0 in
     let k = s.level - 1 in
     let at : suc k ≡ s.level = omega arith in
-    let open_ : IsOpen (at_decision (suc k) s.set) clause = named_at (IsOpen (at_decision (suc k) s.set)) s.clauses number clause (trail.quiet k (omega arith)) false_.1 in
+    let open_ : IsOpen (at_decision (suc k) s.set) clause = named_has (IsOpen (at_decision (suc k) s.set)) s.clauses number clause (trail.quiet k (omega arith)) false_.1 in
     let each : All (λ l. IsFalseLit (at_decision (suc k) s.set) l ⊎ IsFalseAt s.set (λ level. level ≡ s.level) l) clause = λ j d lt.
     let source = Contains-from_map (λ (e : Entry). e.lit) s.set (negated (get_or clause j d)) (false_.2 j d lt) in
     let e = source.0 in

@@ -13,11 +13,12 @@ use Rattle.lz_log.specs.Refutation.{LeadsToFalse}
 use Rattle.lz_prop.specs.Trail.{Entry, TrailState, IsTrail, literals}
 use Rattle.lz_analyze.specs.Learnt.{IsFalseAt}
 use Rattle.lz_analyze.specs.Walks.{is_open, IsLeft, IsWalk}
-use Rattle.lz_prop.proofs.LitLemmas.{variable_of-negated, negated-negated, Contains-map}
-use Rattle.lz_prop.proofs.EntryLemmas.{one_entry, set_consistent}
+use Rattle.lz_prop.proofs.LitLemmas.{Contains-map}
+use Rattle.lz_prop.proofs.EntryLemmas.{same_read, one_entry, set_consistent}
 use Rattle.lz_analyze.proofs.LeadsLemmas.{resolved_leads}
 use Rattle.std.proofs.lemmas.List.Quantifiers.{all_pairs_push}
 use Rattle.lz_cnf.specs.Partial.{IsNamed}
+use Rattle.lz_cnf.proofs.LitLemmas.{variable_of-negated, negated-negated}
 
 -- 1 where the test passes
 bit : Bool → ℕ
@@ -156,11 +157,6 @@ mark_open s todo marked low i pending hints lit e trail walk within negates leve
       leads = λ false_ are covers. walk.leads false_ are (λ l h. covers l (⊎_elim (λ g. inl (more_left s marked low i v l g)) (λ g. inr g) h));
     }
 
-same_place : {X : Type 0} (xs : List X) (k : ℕ) (d e : X) → k < length xs → get_or xs k d ≡ get_or xs k e
-same_place [] k d e lt = absurd (omega (arith, lt))
-same_place (x ∷ xs) zero d e lt = refl
-same_place (x ∷ xs) (suc k) d e lt = same_place xs k d e (omega arith)
-
 -- one open entry is left, at the last place: with its negation the low literals are a clause by the hints
 pub last_open_leads : (s : TrailState) (todo : Lit → Type 0) (marked : List ℕ) (low clause : List Lit) (i : ℕ) (d : Entry) (hints : List ℕ) → IsTrail s → IsWalk s todo marked low (i + 1) 1 hints → ((l : Lit) → todo l → ⊥)
     → is_open s.level marked (get_or s.set i d) ≡ true
@@ -183,7 +179,7 @@ last_open_leads s todo marked low clause i d hints trail walk done passes are ha
           absurd (none_counted p (take i s.set) open_.entry none front open_.open_))
       | inr above ↦
           (let at : k ≡ i = omega (arith, open_.within.1) in
-          let same : get_or s.set i d ≡ open_.entry = same_place s.set i d open_.entry within ∙ ap (λ (n : ℕ). get_or s.set n open_.entry) (sym at) ∙ at_k in
+          let same : get_or s.set i d ≡ open_.entry = same_read s.set i d open_.entry within ∙ ap (λ (n : ℕ). get_or s.set n open_.entry) (sym at) ∙ at_k in
           let back : negated (get_or s.set i d).lit ≡ l = ap (λ (e : Entry). negated e.lit) same ∙ ap negated open_.negates ∙ negated-negated l in
           subst (Contains clause) back has_last)
     ])
@@ -272,7 +268,7 @@ resolve s todo marked low i pending next hints d reason clause trail walk done p
       | inl below ↦ (let short2 = length-take-le i s.set (omega arith) in
           inr (inl (inr (record { entry = open_.entry; within = (k, omega arith, get_or-take i s.set k open_.entry below ∙ at_k); negates = open_.negates; open_ = open_.open_ }))))
       | inr above ↦ (let at : k ≡ i = omega (arith, open_.within.1) in
-          let same : e ≡ open_.entry = same_place s.set i d open_.entry within ∙ ap (λ (n : ℕ). get_or s.set n open_.entry) (sym at) ∙ at_k in
+          let same : e ≡ open_.entry = same_read s.set i d open_.entry within ∙ ap (λ (n : ℕ). get_or s.set n open_.entry) (sym at) ∙ at_k in
           inl (sym (negated-negated l) ∙ ap negated (sym open_.negates) ∙ sym (ap (λ (y : Entry). negated y.lit) same)))
     ])
     left)

@@ -8,12 +8,14 @@ use Rattle.std.proofs.lemmas.List.Elements.{All-contains, Contains-get_or}
 use Rattle.lz_cnf.specs.declared.clause.Lit.{Lit}
 use Rattle.lz_cnf.specs.Models.{variable_of, negated}
 use Rattle.lz_cnf.specs.Partial.{IsFalseLit, IsNamed}
+use Rattle.lz_cnf.proofs.LitLemmas.{variable_of-negated}
+use Rattle.lz_log.proofs.RefutationLemmas.{named_has, same_named}
 use Rattle.lz_prop.specs.Trail.{Entry, TrailState, IsTrail, RestsOn, IsFalseNamed, HoldsClause, literals, entry_of, level_in, reason_in}
-use Rattle.lz_prop.proofs.LitLemmas.{variable_of-negated, Contains-from_map}
+use Rattle.lz_prop.proofs.LitLemmas.{Contains-from_map}
 use Rattle.lz_prop.proofs.EntryLemmas.{entry_held}
 use Rattle.lz_analyze.specs.Walks.{is_open, IsLeft, IsWalk}
 use Rattle.lz_analyze.specs.Walking.{IsTodo, IsLeftAt}
-use Rattle.lz_analyze.proofs.LevelLemmas.{named_at, decision_is_first}
+use Rattle.lz_analyze.proofs.LevelLemmas.{decision_is_first}
 use Rattle.lz_analyze.proofs.LeadsLemmas.{conflict_leads}
 use Rattle.lz_analyze.proofs.WalkLemmas.{marked_is, own_mark, front_of, mark_open, mark_low, todo_less, some_counted, resolve}
 
@@ -75,7 +77,7 @@ first_or_rest first lit rest (zero, lt, at) = inl at
 first_or_rest first lit rest (suc k, lt, at) = inr (k, omega (arith, lt), at)
 
 -- the first literal of what is left was met
-met_first : (s : TrailState) (rest : List Lit) (marked : List ℕ) (low : List Lit) (i pending : ℕ) (hints : List ℕ) (lit : Lit) → IsTrail s → IsWalk s (IsTodo s i (lit ∷ rest)) marked low i pending hints
+pub met_first : (s : TrailState) (rest : List Lit) (marked : List ℕ) (low : List Lit) (i pending : ℕ) (hints : List ℕ) (lit : Lit) → IsTrail s → IsWalk s (IsTodo s i (lit ∷ rest)) marked low i pending hints
     → list_any (eqb (variable_of lit)) marked ≡ true → IsWalk s (IsTodo s i rest) marked low i pending hints
 met_first s rest marked low i pending hints lit trail walk any =
     todo_less s (IsTodo s i (lit ∷ rest)) (IsTodo s i rest) marked low i pending hints walk
@@ -113,10 +115,6 @@ met_low s rest marked low i pending hints lit trail known none differs walk =
     met_first s rest (marked ++ variable_of lit ∷ []) (low ++ lit ∷ []) i pending hints lit trail
     (mark_low s (IsTodo s i (lit ∷ rest)) marked low i pending hints lit trail walk (record { entry = is.entry; within = is.whole; negates = is.negates; level = omega (arith, ne) }) none)
     (own_mark (variable_of lit) (variable_of lit) marked refl)
-
-pub met_again : (s : TrailState) (rest : List Lit) (marked : List ℕ) (low : List Lit) (i pending : ℕ) (hints : List ℕ) (lit : Lit) → IsTrail s → IsWalk s (IsTodo s i (lit ∷ rest)) marked low i pending hints
-    → list_any (eqb (variable_of lit)) marked ≡ true → IsWalk s (IsTodo s i rest) marked low i pending hints
-met_again s rest marked low i pending hints lit trail walk any = met_first s rest marked low i pending hints lit trail walk any
 
 -- entries that are left are no more than the places
 pub pending_within : (s : TrailState) (todo : Lit → Type 0) (marked : List ℕ) (low : List Lit) (i pending : ℕ) (hints : List ℕ) → IsWalk s todo marked low i pending hints → pending ≤ i
@@ -173,10 +171,6 @@ at_positive s todo marked low i pending hints walk positive = let within = pendi
 
 -- ---- the reason
 
-pub same_named : (known : List (List Lit)) (n : ℕ) (a b : List Lit) → IsNamed known n a → IsNamed known n b → a ≡ b
-same_named known zero a b p q = absurd p
-same_named known (suc n) a b p q = cc
-
 rests_on : (clauses : List (List Lit)) (before : List Entry) (lit : Lit) (reason : Option ℕ) (number : ℕ) → IfSome reason (RestsOn clauses before lit) → reason ≡ Some number → RestsOn clauses before lit number
 rests_on clauses before lit None number h is = absurd cc
 rests_on clauses before lit (Some n) number h is = let same : n ≡ number = cc in subst (RestsOn clauses before lit) same h
@@ -227,15 +221,12 @@ reason_met s lits marked i lit number rests holds has k d lt =
     (λ is_false. inr is_false)
     (All-contains (λ l. (l ≡ lit) ⊎ IsFalseLit (literals (take i s.set)) l) rests.clause l rests.others in_clause)
 
-named_all : (known : List (List Lit)) (number : ℕ) (clause : List Lit) (P : List Lit → Type 0) → All P known → IsNamed known number clause → P clause
-named_all known number clause P all named = named_at P known number clause all named
-
 -- the variables of a clause as it was lent
 pub lent_variables : (s : TrailState) (lits : List Lit) (number : ℕ) → IsTrail s → HoldsClause s number lits → All (λ l. variable_of l < s.variables) lits
 lent_variables s lits number trail holds k d lt =
     let l = get_or lits k d in
     let has : Contains holds.0 l = All-contains (Contains holds.0) lits l holds.2.left (Contains-get_or lits k d lt) in
-    All-contains (λ x. variable_of x < s.variables) holds.0 l (named_all s.clauses number holds.0 (λ c. All (λ x. variable_of x < s.variables) c) trail.formula holds.1) has
+    All-contains (λ x. variable_of x < s.variables) holds.0 l (named_has (λ c. All (λ x. variable_of x < s.variables) c) s.clauses number holds.0 trail.formula holds.1) has
 
 -- ---- the start
 

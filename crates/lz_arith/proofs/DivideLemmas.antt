@@ -5,7 +5,7 @@ use Rattle.std.proofs.Math.Nat.{pow-suc, mul-le-mul_left}
 use Rattle.std.proofs.Math.Seq.{drop-cons}
 use Rattle.std.proofs.lemmas.Nat.{mod-mul-add, div-mul-add}
 use Rattle.lz_cnf.specs.declared.clause.Lit.{Lit}
-use Rattle.lz_cnf.specs.Models.{variable_of, negated}
+use Rattle.lz_cnf.specs.Models.{variable_of, negated, variable_bound}
 use Rattle.lz_gates.specs.Circuits.{Circuit, Assignment, value, IsLit, AreLits, Satisfies, Makes}
 use Rattle.lz_gates.proofs.Extending.{makes_then, makes_so, makes_same, still}
 use Rattle.lz_gates.proofs.Gate.{value-negated, variable_of-negated}
@@ -221,7 +221,7 @@ divides_all start now left divisor quotient rest i h e =
     quotient_is (word a quotient) (word a divisor) (word a rest) (word a left) (f.0 ∙ ap (word a) all) f.1)
 
 -- there is room for one more step
-pub digits_room : (n i now start : ℕ) → i < n → now ≤ start + (4 * n + 3) * i → start + (4 * n + 3) * n < 2147483648 → now + 4 * n + 3 < 2147483648
+pub digits_room : (n i now start : ℕ) → i < n → now ≤ start + (4 * n + 3) * i → start + (4 * n + 3) * n < variable_bound → now + 4 * n + 3 < variable_bound
 digits_room n i now start lt le room =
     let p = row_more (4 * n + 3) i in
     let q = mul-le-mul_left {m = i + 1} {n = n} (4 * n + 3) (omega arith) in

@@ -3,6 +3,7 @@ use Rattle.std.proofs.Common.{◌≡◌, ℕ, zero, suc, ◌+◌, ◌-◌, ◌*�
 use Rattle.std.proofs.Math.Nat.{add_comm, add-mod, mod-mod, mul-le-mul_left}
 use Rattle.std.proofs.lemmas.List.{take_all}
 use Rattle.lz_cnf.specs.declared.clause.Lit.{Lit}
+use Rattle.lz_cnf.specs.Models.{variable_bound}
 use Rattle.lz_gates.specs.Circuits.{Circuit, Assignment, value, AreLits, Satisfies, Makes}
 use Rattle.lz_gates.proofs.Extending.{makes_then, makes_so, makes_same, still}
 use Rattle.lz_arith.specs.Bits.{bit, word, copies, AreBits}
@@ -113,7 +114,7 @@ multiplies_all start now left right sum i h e f =
     (λ a s p. p ∙ ap (λ (xs : List Lit). (word a left * word a xs) % 2 ^ length left) (take_all i right (omega arith)))
 
 -- there is room for one more row
-pub rows_room : (n i now start : ℕ) → i < n → now ≤ start + n * 4 * 0 + 4 * n * i → start + 4 * n * n < 2147483648 → now + 4 * n < 2147483648
+pub rows_room : (n i now start : ℕ) → i < n → now ≤ start + n * 4 * 0 + 4 * n * i → start + 4 * n * n < variable_bound → now + 4 * n < variable_bound
 rows_room n i now start lt le room =
     let p = row_more (4 * n) i in
     let q = mul-le-mul_left {m = i + 1} {n = n} (4 * n) (omega arith) in

@@ -6,6 +6,7 @@ use Rattle.std.proofs.lemmas.Nat.{div-mul-add, pow-add}
 use Rattle.std.proofs.lemmas.List.{length-append, length-drop, length-take-le, take_all}
 use Rattle.std.proofs.lemmas.List.Elements.{All-drop}
 use Rattle.lz_cnf.specs.declared.clause.Lit.{Lit}
+use Rattle.lz_cnf.specs.Models.{variable_bound}
 use Rattle.lz_gates.specs.Circuits.{Circuit, Assignment, value, IsLit, AreLits, Satisfies, Makes}
 use Rattle.lz_gates.proofs.Extending.{makes_then, makes_so, makes_same, still}
 use Rattle.lz_arith.specs.Bits.{bit, word, copies, AreBits}
@@ -208,7 +209,7 @@ shifts_all start now S bits amount moved by i h e =
     (λ a s p. p ∙ ap (λ (xs : List Lit). S a (word a bits) (word a xs)) (take_all i amount (omega arith)))
 
 -- a stage fits where all do
-pub stage_room : (n k i now start : ℕ) → i < k → now ≤ start + n * i → start + n * k < 2147483648 → now + n < 2147483648
+pub stage_room : (n k i now start : ℕ) → i < k → now ≤ start + n * i → start + n * k < variable_bound → now + n < variable_bound
 stage_room n k i now start lt le room =
     let p = row_more n i in
     let q = mul-le-mul_left {m = i + 1} {n = k} n (omega arith) in

@@ -1,5 +1,5 @@
 -- The values of the operators are words.
-use Rattle.std.proofs.Common.{ℕ, ◌<◌, ◌%◌, ◌==◌, Bool, true, false, not, ◌&&◌, ◌||◌, ℤ, pos, negsuc, if◌then◌else◌, arith}
+use Rattle.std.proofs.Common.{◌≡◌, ℕ, ◌<◌, ◌%◌, ◌==◌, Bool, true, false, not, ◌&&◌, ◌||◌, ℤ, pos, negsuc, cond, if◌then◌else◌, refl, arith}
 use Rattle.std.specs.Prelude.{int_lt, int_div, int_rem}
 use Rattle.std.specs.Int.{int_shr}
 use Rattle.std.proofs.lemmas.Nat.{and_le_l, or_lt, xor_lt}
@@ -24,6 +24,18 @@ wrapped_word (negsuc n) = omega arith
 chosen_word : (test : Bool) (value : ℕ) → value < value_bound → (if test then 0 else value) < value_bound
 chosen_word true value word = omega arith
 chosen_word false value word = word
+
+-- a choice of words is a word
+pub choose_word : (test : Bool) (a b : ℕ) → a < value_bound → b < value_bound → cond test a b < value_bound
+choose_word true a b left right = left
+choose_word false a b left right = right
+
+-- the conjunction of two truth values, as words
+pub both_truths : (a b : Bool) → truth (is_true (truth a) && is_true (truth b)) ≡ truth (a && b)
+both_truths true true = refl
+both_truths true false = refl
+both_truths false true = refl
+both_truths false false = refl
 
 -- the value of a unary operator at a word is a word
 pub unary_word : (op : Unary) (a : ℕ) (t : IntType) → a < value_bound → unary_value op a t < value_bound

@@ -2,3 +2,6 @@
 
 /// The most bytes that a source file may have.
 pub const FILE_LIMIT: u64 = 1_048_576;
+
+/// The most that a program may cost within its bounds.
+pub const COST_LIMIT: u64 = 10_000_000;

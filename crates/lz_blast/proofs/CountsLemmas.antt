@@ -1,11 +1,13 @@
 -- Counts of variables and clauses, against the weight.
 use Rattle.std.proofs.Common.{◌≡◌, ℕ, zero, suc, ◌+◌, ◌*◌, ◌<◌, ◌≤◌, List, [], ◌∷◌, ◌++◌, length, get_or, take, ◌∙◌, ap, subst, arith}
 use Rattle.std.proofs.lemmas.List.{take_more}
+use Rattle.lz_base.specs.Limits.{cost_limit}
 use Rattle.lz_base.specs.declared.operator.Unary.{Unary}
 use Rattle.lz_base.specs.declared.operator.Unary.TheVariants.{Plus, Minus, Invert, Not}
 use Rattle.lz_base.specs.declared.operator.Binary.{Binary}
 use Rattle.lz_base.specs.declared.operator.Binary.TheVariants.{Mul, Div, Rem, Add, Sub, Shl, Shr, Lt, Gt, Le, Ge, Eq, Ne, BitAnd, BitXor, BitOr, Both, Either}
-use Rattle.lz_flat.specs.Weight.{unary_number, binary_number, most_weight}
+use Rattle.lz_cnf.specs.Models.{variable_bound}
+use Rattle.lz_flat.specs.Weight.{unary_number, binary_number}
 use Rattle.lz_arith.specs.Sizes.{unary_variables, unary_clauses, binary_variables, binary_clauses}
 use Rattle.lz_ssa.specs.declared.node.Node.{Node}
 use Rattle.lz_ssa.specs.declared.node.Node.TheVariants as nodes
@@ -115,7 +117,7 @@ front_at_most [] (suc n) = omega arith
 front_at_most (first ∷ rest) (suc n) = let p = front_at_most rest n in omega arith
 
 -- there is room for the circuit of each node
-pub node_room : (list : List Node) (i : ℕ) (d : Node) (now : ℕ) → i < length list → now ≤ 1 + nodes_variables (take i list) → nodes_weight list ≤ most_weight → now + node_variables (get_or list i d) < 2147483648
+pub node_room : (list : List Node) (i : ℕ) (d : Node) (now : ℕ) → i < length list → now ≤ 1 + nodes_variables (take i list) → nodes_weight list ≤ cost_limit → now + node_variables (get_or list i d) < variable_bound
 node_room list i d now lt le light =
     let p = front_at_most list (i + 1) in
     let e = ap nodes_variables (take_more list i d lt) ∙ variables_push (take i list) (get_or list i d) in

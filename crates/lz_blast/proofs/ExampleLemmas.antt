@@ -2,7 +2,7 @@
 use Rattle.std.proofs.Common.{◌≡◌, ℕ, ◌+◌, ◌<◌, ◌≤◌, List, [], ◌∷◌, length, refl, sym, ap, subst, arith}
 use Rattle.lz_base.specs.declared.operator.Binary.TheVariants.{Eq}
 use Rattle.lz_base.specs.declared.word.IntType.TheVariants.{Unsigned}
-use Rattle.lz_flat.specs.Weight.{most_weight}
+use Rattle.lz_base.specs.Limits.{cost_limit}
 use Rattle.lz_ssa.specs.declared.node.Node.{Node}
 use Rattle.lz_ssa.specs.declared.node.Node.TheVariants as nodes
 use Rattle.lz_ssa.specs.declared.node.Nodes.{Nodes}
@@ -22,5 +22,5 @@ three_formed made e i f = record {
 }
 
 -- and light
-pub three_light : (made : Nodes) → made.list ≡ three_nodes → nodes_weight made.list ≤ most_weight
+pub three_light : (made : Nodes) → made.list ≡ three_nodes → nodes_weight made.list ≤ cost_limit
 three_light made e = let z = ap nodes_weight e in omega arith

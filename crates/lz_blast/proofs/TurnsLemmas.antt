@@ -1,8 +1,9 @@
 -- The turns of the loop over nodes.
 use Rattle.std.proofs.Common.{◌≡◌, ℕ, zero, suc, ◌+◌, ◌<◌, ◌≤◌, List, [], length, get_or, take, replicate, refl, sym, ◌∙◌, ap, subst, arith}
 use Rattle.std.proofs.lemmas.List.{take_all, take_more, length-take-le}
+use Rattle.lz_base.specs.Limits.{cost_limit}
 use Rattle.lz_cnf.specs.declared.clause.Lit.{Lit}
-use Rattle.lz_flat.specs.Weight.{most_weight}
+use Rattle.lz_cnf.specs.Models.{variable_bound}
 use Rattle.lz_gates.specs.Circuits.{Circuit}
 use Rattle.lz_ssa.specs.declared.node.Node.{Node}
 use Rattle.lz_ssa.specs.declared.node.Nodes.{Nodes}
@@ -34,9 +35,9 @@ turn_node nodes items now inputs words_ i d e formed h count lt =
     by i n e = omega arith
 
 -- and there is room for its circuit
-pub turn_room : (nodes : Nodes) (items : List Node) (now : Circuit) (inputs words_ : List (List Lit)) (i : ℕ) (d : Node) → items ≡ nodes.list → nodes_weight nodes.list ≤ most_weight → Stands now inputs words_ (take i items)
-    → i < length items → now.variables + node_variables (get_or items i d) < 2147483648
-turn_room nodes items now inputs words_ i d e light h lt = node_room items i d now.variables lt h.variables (subst (λ (xs : List Node). nodes_weight xs ≤ most_weight) (sym e) light)
+pub turn_room : (nodes : Nodes) (items : List Node) (now : Circuit) (inputs words_ : List (List Lit)) (i : ℕ) (d : Node) → items ≡ nodes.list → nodes_weight nodes.list ≤ cost_limit → Stands now inputs words_ (take i items)
+    → i < length items → now.variables + node_variables (get_or items i d) < variable_bound
+turn_room nodes items now inputs words_ i d e light h lt = node_room items i d now.variables lt h.variables (subst (λ (xs : List Node). nodes_weight xs ≤ cost_limit) (sym e) light)
 
 -- the next turn
 pub turn_more : (items : List Node) (now next : Circuit) (inputs inputs_after words_ after : List (List Lit)) (i : ℕ) (d : Node) → Stands now inputs words_ (take i items) → i < length items
@@ -49,5 +50,5 @@ pub turn_all : (nodes : Nodes) (items : List Node) (now : Circuit) (inputs words
 turn_all nodes items now inputs words_ i e h le = subst (λ (xs : List Node). Stands now inputs words_ xs) (take_all i items le ∙ e) h
 
 -- there is room for the last test
-pub test_room : (nodes : Nodes) (now : Circuit) (inputs words_ : List (List Lit)) → Stands now inputs words_ nodes.list → nodes_weight nodes.list ≤ most_weight → now.variables + 1 < 2147483648
+pub test_room : (nodes : Nodes) (now : Circuit) (inputs words_ : List (List Lit)) → Stands now inputs words_ nodes.list → nodes_weight nodes.list ≤ cost_limit → now.variables + 1 < variable_bound
 test_room nodes now inputs words_ h light = let p = h.variables in let w = (nodes_weigh nodes.list).0 in omega arith

@@ -1,8 +1,8 @@
 //! The formula of nodes.
 ghost use Rattle.std.specs.Prelude.{◌≡◌, ◌*◌, ◌<◌, ◌≤◌, ℕ, IfOk, length};
 ghost use Rattle.std.specs.List.{All};
+ghost use Rattle.lz_base.specs.Limits.{cost_limit};
 ghost use Rattle.lz_cnf.specs.Models.{IsFormula};
-ghost use Rattle.lz_flat.specs.Weight.{most_weight};
 ghost use Rattle.lz_ssa.specs.NodeValues.{AreWellFormed};
 ghost use Rattle.lz_ssa.specs.NodeWeight.{nodes_weight};
 ghost use Rattle.lz_blast.specs.Formulas.{Decides};
@@ -26,7 +26,7 @@ pub struct Blasted {
 /// The formula whose models are exactly the inputs on which the node `fails` is not 0.
 pub fn blast(alloc: Global, nodes: &Nodes) -> Result<Blasted, Memory>
     requires formed { AreWellFormed nodes.now }
-    requires light { nodes_weight nodes.now.list ≤ most_weight }
+    requires light { nodes_weight nodes.now.list ≤ cost_limit }
 
     ensures decides { IfOk result (λ b. Decides nodes.now b.formula b.inputs) }
     ensures formula { IfOk result (λ b. IsFormula b.formula) }

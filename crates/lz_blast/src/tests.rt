@@ -1,5 +1,5 @@
 ghost use Rattle.std.specs.Prelude.{◌≤◌, IfOk};
-ghost use Rattle.lz_flat.specs.Weight.{most_weight};
+ghost use Rattle.lz_base.specs.Limits.{cost_limit};
 ghost use Rattle.lz_ssa.specs.NodeValues.{AreWellFormed};
 ghost use Rattle.lz_ssa.specs.NodeWeight.{nodes_weight};
 
@@ -13,7 +13,7 @@ use std::test::Fail;
 /// Nodes that fail where input 0 is 5, with an input 1 that no node reads.
 fn equal_to_five(alloc: Global) -> Result<Nodes, Memory>
     ensures formed { IfOk result AreWellFormed }
-    ensures light { IfOk result (λ nodes. nodes_weight nodes.list ≤ most_weight) }
+    ensures light { IfOk result (λ nodes. nodes_weight nodes.list ≤ cost_limit) }
 {
     let mut list = NodeList::new(alloc);
     list.push(Node::Constant { value: 5 })?;

@@ -204,7 +204,3 @@ threads_weight (code ∷ rest) = thread_number + code_weight code + threads_weig
 -- the weight of a flat program
 abbrev pub flat_weight : FlatProgram → ℕ
 flat_weight flat = threads_weight flat.threads
-
--- the greatest weight of a program that is sequentialized or turned into nodes
-abbrev pub most_weight : ℕ
-most_weight = 10000000

@@ -1,15 +1,16 @@
 -- What holds of the encoding holds of the program made, and its lists are short since it is light.
-use Rattle.std.proofs.Common.{◌≡◌, ℕ, zero, suc, ◌+◌, ◌*◌, ◌≤◌, ◌<◌, All, List, [], ◌∷◌, length, map, replicate, get_or, refl, sym, ◌∙◌, ap, subst, arith}
+use Rattle.std.proofs.Common.{◌≡◌, ℕ, zero, suc, ◌+◌, ◌*◌, ◌≤◌, ◌<◌, All, List, [], ◌∷◌, length, map, replicate, get_or, sym, ◌∙◌, ap, subst, arith}
 use Rattle.std.specs.Prelude.{slice_index_or}
 use Rattle.std.proofs.Math.Nat.{mul-le-mul_right}
+use Rattle.lz_base.specs.Limits.{cost_limit}
 use Rattle.lz_base.specs.Words.{value_bound}
 use Rattle.lz_flat.specs.declared.program.Marked.{Marked}
 use Rattle.lz_flat.specs.declared.program.Guarded.{Guarded}
 use Rattle.lz_flat.specs.declared.program.Flat.{Flat}
 use Rattle.lz_flat.specs.Programs.{MarkedInstruction, FlatProgram, Statement, StraightProgram, code_of, marked, statement, flat_program, instructions}
-use Rattle.lz_flat.specs.Weight.{threads_weight, flat_weight, most_weight}
+use Rattle.lz_flat.specs.Weight.{threads_weight, flat_weight}
 use Rattle.lz_lazy.specs.Encoding.{encoding, encoded_first, sequential}
-use Rattle.std.proofs.lemmas.List.{length-append}
+use Rattle.std.proofs.lemmas.List.{length-append, length-map}
 use Rattle.lz_lazy.proofs.Driving.{length_zeros}
 use Rattle.lz_lazy.proofs.Sizes.{size}
 use Rattle.lz_flat.proofs.WeightLemmas.{code_length}
@@ -24,40 +25,25 @@ carry P flat rounds list first list_is first_is h =
 
 -- ---- lengths
 
--- code has as many instructions as definitions read
-length_marked : (xs : List Marked) → length (map (λ c. marked c) xs) ≡ length xs
-length_marked [] = refl
-length_marked (x ∷ xs) = ap suc (length_marked xs)
-
--- a list has as many statements as definitions read
-length_statements : (xs : List Guarded) → length (map statement xs) ≡ length xs
-length_statements [] = refl
-length_statements (x ∷ xs) = ap suc (length_statements xs)
-
--- a program has as many threads as definitions read
-length_threads : (xs : List (List Marked)) → length (map (λ c. map marked c) xs) ≡ length xs
-length_threads [] = refl
-length_threads (x ∷ xs) = ap suc (length_threads xs)
-
 -- the length of what was made, by the numbers of instructions and threads
 pub sized : (flat : Flat) (rounds : ℕ) (list : List Guarded) → map statement list ≡ encoding (flat_program flat) rounds
     → length list ≡ 3 * rounds * (instructions (flat_program flat).threads + 4 * length flat.threads)
 sized flat rounds list is =
-    sym (length_statements list) ∙ ap length is ∙ size (flat_program flat) rounds
-    ∙ ap (λ (t : ℕ). 3 * rounds * (instructions (flat_program flat).threads + 4 * t)) (length_threads flat.threads)
+    sym (length-map list statement) ∙ ap length is ∙ size (flat_program flat) rounds
+    ∙ ap (λ (t : ℕ). 3 * rounds * (instructions (flat_program flat).threads + 4 * t)) (length-map flat.threads (λ c. map marked c))
 
 -- a program that is light enough for one round or more is light
-light : (rounds weight : ℕ) → 1 ≤ rounds → rounds * weight ≤ most_weight → weight ≤ most_weight
+light : (rounds weight : ℕ) → 1 ≤ rounds → rounds * weight ≤ cost_limit → weight ≤ cost_limit
 light rounds weight some h = let k : 1 * weight ≤ rounds * weight = mul-le-mul_right weight some in omega (arith, k, h)
 
 -- the code of a thread is no longer than the threads weigh
 code_light : (threads : List (List Marked)) (k : ℕ) (d : List Marked) → k < length threads → length (get_or threads k d) ≤ threads_weight (map (λ c. map marked c) threads)
 code_light [] k d lt = absurd (let z : ⊥ = omega arith in z)
-code_light (x ∷ xs) zero d lt = let h = code_length (map marked x) in let e = length_marked x in omega (arith, h, e)
+code_light (x ∷ xs) zero d lt = let h = code_length (map marked x) in let e = length-map x (λ c. marked c) in omega (arith, h, e)
 code_light (x ∷ xs) (suc k) d lt = let h = code_light xs k d (omega arith) in omega (arith, h)
 
 -- each code is short where so many rounds are light
-pub all_short : (flat : Flat) (rounds : ℕ) → 1 ≤ rounds → rounds * flat_weight (flat_program flat) ≤ most_weight → All (λ code. length code + 1 < 4294967296) flat.threads
+pub all_short : (flat : Flat) (rounds : ℕ) → 1 ≤ rounds → rounds * flat_weight (flat_program flat) ≤ cost_limit → All (λ code. length code + 1 < 4294967296) flat.threads
 all_short flat rounds some h k d lt =
     let a = code_light flat.threads k d lt in
     let b = light rounds (flat_weight (flat_program flat)) some h in
@@ -71,7 +57,7 @@ code_of_light (x ∷ xs) zero = let h = code_length x in omega (arith, h)
 code_of_light (x ∷ xs) (suc t) = let h = code_of_light xs t in omega (arith, h)
 
 -- each thread has fewer than 2^32 instructions where so many rounds are light
-pub short : (flat : FlatProgram) (rounds : ℕ) → 1 ≤ rounds → rounds * flat_weight flat ≤ most_weight → (thread : ℕ) → length (code_of flat thread) < value_bound
+pub short : (flat : FlatProgram) (rounds : ℕ) → 1 ≤ rounds → rounds * flat_weight flat ≤ cost_limit → (thread : ℕ) → length (code_of flat thread) < value_bound
 short flat rounds some h thread =
     let a = code_of_light flat.threads thread in
     let b = light rounds (flat_weight flat) some h in
@@ -83,6 +69,6 @@ pub numbered : (flat : Flat) (first : List ℕ) → first ≡ encoded_first (fla
 numbered flat first is lt =
     let a = length-append flat.first (0 ∷ 0 ∷ replicate (length (flat_program flat).threads) 0) in
     let b = length_zeros (length (flat_program flat).threads) in
-    let c = length_threads flat.threads in
+    let c = length-map flat.threads (λ c. map marked c) in
     let e = ap length is in
     omega (arith, a, b, c, e)

@@ -4,6 +4,7 @@ use Rattle.std.specs.Prelude.{slice_index, slice_set, ◌==◌, if◌then◌else
 use Rattle.std.proofs.lemmas.List.{length-drop}
 use Rattle.std.proofs.lemmas.Bool.{lt-ltb, le-ltb, ne_eqb, eq-eqb}
 use Rattle.lz_base.specs.Words.{value_bound}
+use Rattle.lz_base.proofs.WordsLemmas.{choose_word}
 use Rattle.lz_flat.specs.FlatRuns.{Ran, went, behind, onward, step_from, step, below, source, block_length, driven}
 use Rattle.lz_flat.specs.Instructions.{Did, moved, blocked, broke, did}
 use Rattle.lz_flat.specs.Programs.{MarkedInstruction, FlatProgram, code_of}
@@ -119,19 +120,14 @@ clamped_small guess size h = decide (nat_le guess size) refl
     decide true e = let g : guess ≤ size = grind arith in omega arith
     decide false e = h
 
--- either of two words is a word
-cond_small : (b : Bool) (x y : ℕ) → x < value_bound → y < value_bound → cond b x y < value_bound
-cond_small true x y h k = h
-cond_small false x y h k = k
-
 -- each of these inputs is a word
 pub inputs_small : (flat : FlatProgram) (inputs : ℕ → ℕ → ℕ) (bs guesses : List ℕ) (o i : ℕ) → ((thread l : ℕ) → inputs thread l < value_bound) → ((thread : ℕ) → length (code_of flat thread) < value_bound)
     → inputs_of flat inputs guesses bs o i < value_bound
 unfolding inputs_of
 inputs_small flat inputs [] guesses o i small short = omega arith
 inputs_small flat inputs (thread ∷ rest) guesses o i small short =
-    cond_small (nat_lt i (o + block_length (code_of flat thread))) (block_input (inputs thread) (clamped (slice_index guesses 0) (length (code_of flat thread))) o i)
+    choose_word (nat_lt i (o + block_length (code_of flat thread))) (block_input (inputs thread) (clamped (slice_index guesses 0) (length (code_of flat thread))) o i)
     (inputs_of flat inputs (drop 1 guesses) rest (o + block_length (code_of flat thread)) i)
-    (cond_small (i == o) (clamped (slice_index guesses 0) (length (code_of flat thread))) (inputs thread ((i - (o + 12)) / 3))
+    (choose_word (i == o) (clamped (slice_index guesses 0) (length (code_of flat thread))) (inputs thread ((i - (o + 12)) / 3))
     (clamped_small (slice_index guesses 0) (length (code_of flat thread)) (short thread)) (small thread ((i - (o + 12)) / 3)))
     (inputs_small flat inputs rest (drop 1 guesses) (o + block_length (code_of flat thread)) i small short)

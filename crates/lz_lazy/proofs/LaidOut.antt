@@ -4,7 +4,8 @@ use Rattle.std.specs.Prelude.{slice_index, slice_set, ◌==◌}
 use Rattle.std.proofs.lemmas.List.{get_or-append_right, set-append_right}
 use Rattle.lz_flat.specs.Instructions.{value, put}
 use Rattle.lz_flat.specs.Programs.{MarkedInstruction}
-use Rattle.lz_base.specs.Words.{truth, is_true}
+use Rattle.lz_base.specs.Words.{truth}
+use Rattle.lz_base.proofs.WordsLemmas.{both_truths}
 use Rattle.lz_lazy.specs.Encoding.{whole, guess_place, flag_place, saved_place, stands_at, runs_next, clamp}
 use Rattle.lz_lazy.proofs.Masks.{IsMask, and_within}
 use Rattle.lz_lazy.proofs.Guesses.{clamped}
@@ -64,13 +65,6 @@ ready guess place l false = truth (place == l)
 abbrev pub ready_next : ℕ → ℕ → ℕ → List MarkedInstruction → ℕ
 ready_next guess place l [] = 0
 ready_next guess place l (first ∷ rest) = ready guess place l first.visible
-
--- both of two truth values, as words
-both_truths : (a b : Bool) → truth (is_true (truth a) && is_true (truth b)) ≡ truth (a && b)
-both_truths true true = refl
-both_truths true false = refl
-both_truths false true = refl
-both_truths false false = refl
 
 -- whether a thread stands at a place, by the guess and the places
 pub value_stands : (n thread l : ℕ) (visible : Bool) (words : List ℕ) (guess flag : ℕ) (places : List ℕ) → length words ≡ n

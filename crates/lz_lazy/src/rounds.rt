@@ -1,9 +1,10 @@
 ghost use Rattle.std.specs.Prelude.{◌≡◌, ◌<◌, ◌≤◌, ◌+◌, ◌*◌, ◌^◌, length, map, All, OnOk, IfOk, ◌++◌};
+ghost use Rattle.lz_base.specs.Limits.{cost_limit};
 ghost use Rattle.lz_flat.specs.Programs.{statement, flat_program, straight_program, instructions};
 ghost use Rattle.lz_flat.specs.FlatRuns.{threads_from};
 ghost use Rattle.lz_flat.specs.WellFormed.{IsWellMarked, IsWellFormed};
 ghost use Rattle.lz_flat.specs.Lengths.{FlatHasLengths, StraightHasLengths};
-ghost use Rattle.lz_flat.specs.Weight.{flat_weight, straight_weight, most_weight};
+ghost use Rattle.lz_flat.specs.Weight.{flat_weight, straight_weight};
 ghost use Rattle.lz_lazy.specs.Encoding as spec;
 ghost use Rattle.lz_lazy.specs.Sequential.{FailsAsDriven, FailsWhereBroken};
 
@@ -60,7 +61,7 @@ pub fn sequentialize(alloc: Global, flat: &Flat, rounds: u32) -> Result<Straight
     requires marked { IsWellMarked (flat_program flat.now) }
     requires words { length flat.now.first < 2 ^ 32 }
     requires rounds { 1 ≤ rounds }
-    requires light { rounds * flat_weight (flat_program flat.now) ≤ most_weight }
+    requires light { rounds * flat_weight (flat_program flat.now) ≤ cost_limit }
 
     ensures driven { IfOk result (λ made. FailsAsDriven (flat_program flat.now) rounds (straight_program made)) }
     ensures broken { IfOk result (λ made. FailsWhereBroken (flat_program flat.now) rounds (straight_program made)) }

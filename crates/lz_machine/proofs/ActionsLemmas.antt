@@ -7,8 +7,8 @@ use Rattle.lz_model.specs.Behaviours.{Outcome, done, exits, cut, Behaviour, ends
 use Rattle.lz_model.specs.CodeTraces.{Locals}
 use Rattle.lz_model.specs.Programs.{end_of, EndsThread, is_cut, is_done, is_left, numbered_after, CreatesFrom}
 use Rattle.lz_model.specs.WithoutLoc.{left_out, without_loc}
+use Rattle.lz_model.proofs.OneRunLemmas.{without_loc-append}
 use Rattle.lz_turns.specs.Seen.{Follows}
-use Rattle.lz_turns.proofs.SeenLemmas.{without-append}
 use Rattle.lz_machine.specs.Threads.{Acts}
 
 -- ---- numbers of threads that are created, Loc left out
@@ -67,7 +67,7 @@ module _ {one two : Behaviour Locals ℕ} {s t : Locals} where
       same_numbers full e = numbers_back full made (subst (λ (x : List Act). CreatesFrom x made) (sym e) (numbers_there a.full made a.numbered))
 
       with_end : (front other : List Act) (end : Act) → without_loc other ≡ without_loc front → a.full ≡ front ++ end ∷ [] → without_loc (other ++ end ∷ []) ≡ without_loc a.full
-      with_end front other end e k = without-append other (end ∷ []) ∙ (ap (λ (x : List Act). x ++ without_loc (end ∷ [])) e ∙ (sym (without-append front (end ∷ [])) ∙ sym (ap without_loc k)))
+      with_end front other end e k = without_loc-append other (end ∷ []) ∙ (ap (λ (x : List Act). x ++ without_loc (end ∷ [])) e ∙ (sym (without_loc-append front (end ∷ [])) ∙ sym (ap without_loc k)))
 
       by : EndsThread one s whole a.full → (list ≡ []) ⊎ Acts two t whole made list
       by (is_cut h) = elim (f.leads a.full cut h) [

@@ -9,7 +9,8 @@ use Rattle.std.proofs.lemmas.Map.Steps.{length-le_from_distinct_below}
 use Rattle.lz_cnf.specs.Models.{variable_of, negated}
 use Rattle.lz_prop.specs.Trail.{Entry, TrailState, IsTrail, literals, entry_of}
 use Rattle.lz_cnf.specs.Partial.{IsConsistent}
-use Rattle.lz_prop.proofs.LitLemmas.{variable_of-negated, ne_negated, Contains-from_map}
+use Rattle.lz_cnf.proofs.LitLemmas.{variable_of-negated, ne_negated}
+use Rattle.lz_prop.proofs.LitLemmas.{Contains-from_map}
 
 pub same_read : {X : Type 0} (xs : List X) (k : ℕ) (d e : X) → k < length xs → get_or xs k d ≡ get_or xs k e
 same_read [] k d e lt = absurd (omega (arith, lt))

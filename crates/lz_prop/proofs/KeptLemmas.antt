@@ -9,6 +9,7 @@ use Rattle.std.proofs.lemmas.Option.{slice_get-get_or}
 use Rattle.lz_cnf.specs.declared.clause.Lit.{Lit}
 use Rattle.lz_cnf.specs.Models.{variable_of, negated}
 use Rattle.lz_cnf.specs.Partial.{IsUnassigned, IsConsistent, IsFalseClause, IsQuiet, IsNamed}
+use Rattle.lz_cnf.proofs.LitLemmas.{variable_of-negated}
 use Rattle.lz_prop.specs.declared.inner.Inner.{Inner}
 use Rattle.lz_prop.specs.declared.store.Store.{Store}
 use Rattle.lz_prop.specs.Trail.{Entry, TrailState, IsTrail, RestsOn, Extends, literals, IsFalseNamed, HoldsClause, WasOpen, at_decision, decided, propagated, gone_back, with_clause}
@@ -18,7 +19,6 @@ use Rattle.lz_prop.specs.Parts.{entry_at, number_kept, IsTable, AreStarts}
 use Rattle.lz_prop.specs.Stored.{IsStore, clauses_of}
 use Rattle.lz_prop.specs.Kept.{IsKept, state_of}
 use Rattle.lz_prop.specs.Further.{IsFurther, IsFalseKept}
-use Rattle.lz_prop.proofs.LitLemmas.{variable_of-negated}
 use Rattle.lz_prop.proofs.EntryLemmas.{entries_fit, set_consistent}
 use Rattle.lz_prop.proofs.TrailLemmas.{apart_push, filter_all, added_is_trail, decided_is_trail, propagated_is_trail}
 use Rattle.lz_prop.proofs.BackLemmas.{back_is_front, back_is_trail, filter_twice, filter_shorter}

@@ -8,6 +8,7 @@ use Rattle.std.proofs.lemmas.Option.{slice_get-get_or}
 use Rattle.lz_cnf.specs.declared.clause.Lit.{Lit}
 use Rattle.lz_cnf.specs.Models.{variable_of, negated}
 use Rattle.lz_cnf.specs.Partial.{IsFalseLit, IsOpen, IsNamed}
+use Rattle.lz_cnf.proofs.LitLemmas.{variable_of-negated}
 use Rattle.lz_prop.specs.declared.inner.Inner.{Inner}
 use Rattle.lz_prop.specs.declared.watch.Watch.{Watch}
 use Rattle.lz_prop.specs.Trail.{Entry, RestsOn, gone_back}
@@ -19,7 +20,7 @@ use Rattle.lz_prop.specs.Scan.{IsMarkedFalse, AreOthersFalse, IsLeft, IsOther, I
 use Rattle.lz_prop.specs.Stored.{clauses_of}
 use Rattle.lz_prop.specs.Kept.{IsKept, state_of}
 use Rattle.lz_prop.specs.Further.{IsFurther}
-use Rattle.lz_prop.proofs.LitLemmas.{variable_of-negated, Contains-map, Contains-from_map, Contains-filter, Contains-from_filter}
+use Rattle.lz_prop.proofs.LitLemmas.{Contains-map, Contains-from_map, Contains-filter, Contains-from_filter}
 use Rattle.lz_prop.proofs.OpenLemmas.{not_both}
 use Rattle.lz_prop.proofs.StoreLemmas.{length-cut}
 use Rattle.lz_prop.proofs.ScanLemmas.{marked_false, unmarked, others_marked}

@@ -1,14 +1,12 @@
 -- Which clauses are open.
-use Rattle.std.proofs.Common.{◌≡◌, ℕ, zero, suc, ◌⊎◌, inl, inr, ⊎_elim, List, [], ◌∷◌, sym, ◌∙◌, ap, subst, arith}
+use Rattle.std.proofs.Common.{◌≡◌, zero, suc, ◌⊎◌, inl, inr, ⊎_elim, List, [], ◌∷◌, sym, ◌∙◌, ap, subst, arith}
 use Rattle.std.specs.List.{Contains}
 use Rattle.std.proofs.lemmas.Bool.{cases_eq}
 use Rattle.std.proofs.lemmas.List.Elements.{All-contains}
 use Rattle.lz_cnf.specs.declared.clause.Lit.{Lit}
 use Rattle.lz_cnf.specs.Models.{negated}
 use Rattle.lz_cnf.specs.Partial.{IsFalseLit, IsConsistent, IsOpen}
-
-same_lit : (a b : Lit) → a.0 ≡ b.0 → a ≡ b
-same_lit a b h = ap (λ (n : ℕ). let l : Lit = record { 0 = n } in l) h
+use Rattle.lz_cnf.proofs.LitLemmas.{same_lit}
 
 in_rest : (first lit : Lit) (rest : List Lit) → Contains (first ∷ rest) lit → (first.0 ≡ lit.0 → ⊥) → Contains rest lit
 in_rest first lit rest (zero, lt, at) ne = absurd (ne (ap (λ (l : Lit). l.0) at))

@@ -1,5 +1,5 @@
 -- One more literal of a clause is looked at, and what the tables say of it.
-use Rattle.std.proofs.Common.{◌≡◌, ℕ, ◌+◌, ◌<◌, ◌≤◌, ◌⊎◌, inl, inr, ⊎_elim, List, length, get_or, take, drop, sym, ap, subst, arith}
+use Rattle.std.proofs.Common.{◌≡◌, ℕ, ◌+◌, ◌<◌, ◌≤◌, ◌⊎◌, inl, inr, ⊎_elim, List, length, get_or, take, drop, sym, subst, arith}
 use Rattle.std.specs.List.{All, Contains}
 use Rattle.std.proofs.lemmas.List.{take_all, take-append-drop}
 use Rattle.std.proofs.lemmas.List.Elements.{All-contains, All-more, All-weaker, Contains-append_left, Contains-get_or}
@@ -8,9 +8,6 @@ use Rattle.lz_cnf.specs.Models.{negated}
 use Rattle.lz_cnf.specs.Partial.{IsFalseLit}
 use Rattle.lz_prop.specs.Parts.{IsTable}
 use Rattle.lz_prop.specs.Scan.{IsMarkedTrue, IsMarkedFalse, AreOthersFalse, IsBefore, IsLater, IsLast}
-
-pub same_lit : (a b : Lit) → a.0 ≡ b.0 → a ≡ b
-same_lit a b h = ap (λ (n : ℕ). let l : Lit = record { 0 = n } in l) h
 
 -- what a front contains
 pub front_in : {X : Type 0} (xs : List X) (n : ℕ) (x : X) → Contains (take n xs) x → Contains xs x

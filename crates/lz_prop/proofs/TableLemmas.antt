@@ -7,9 +7,9 @@ use Rattle.std.proofs.lemmas.List.Elements.{All-push, Contains-get_or, Contains-
 use Rattle.lz_cnf.specs.declared.clause.Lit.{Lit}
 use Rattle.lz_cnf.specs.Models.{variable_of}
 use Rattle.lz_cnf.specs.Partial.{IsUnassigned}
+use Rattle.lz_cnf.proofs.LitLemmas.{same_variable, same_lit}
 use Rattle.lz_prop.specs.Trail.{Entry, literals, entry_of, value_in, level_in, reason_in}
 use Rattle.lz_prop.specs.Parts.{entries, entry_at, number_kept, IsTable, AreStarts}
-use Rattle.lz_prop.proofs.LitLemmas.{same_variable}
 use Rattle.lz_prop.proofs.TrailLemmas.{filter_all}
 
 pub literals-entries : (levels reasons : List ℕ) (order : List Lit) → literals (entries levels reasons order) ≡ order
@@ -53,9 +53,6 @@ others_vary order lit free k d lt =
     (λ h. free.0 (subst (Contains order) h (Contains-get_or order k d lt)))
     (λ h. free.1 (subst (Contains order) h (Contains-get_or order k d lt)))
     (same_variable (get_or order k d) lit same)
-
-same_lit : (a b : Lit) → a.0 ≡ b.0 → a ≡ b
-same_lit a b h = ap (λ (n : ℕ). let l : Lit = record { 0 = n } in l) h
 
 -- one more literal is true
 pub table_more : (count : ℕ) (truths levels reasons : List ℕ) (order : List Lit) (lit : Lit) (level reason : ℕ) → IsTable count truths levels reasons order → variable_of lit < count → IsUnassigned order lit

@@ -10,8 +10,9 @@ use Rattle.lz_cnf.specs.declared.clause.Lit.{Lit}
 use Rattle.lz_cnf.specs.declared.clause.Cnf.{Cnf}
 use Rattle.lz_cnf.specs.Models.{variable_of, IsFormula}
 use Rattle.lz_cnf.specs.Partial.{IsUnassigned, IsOpen, IsQuiet, IsNamed}
+use Rattle.lz_cnf.proofs.LitLemmas.{same_variable}
 use Rattle.lz_prop.specs.Trail.{Entry, TrailState, IsTrail, RestsOn, HasReason, literals, at_decision, opening, decided, propagated, with_clause, WasOpen}
-use Rattle.lz_prop.proofs.LitLemmas.{same_variable, Contains-map}
+use Rattle.lz_prop.proofs.LitLemmas.{Contains-map}
 
 -- no entry has the variable of an unassigned literal
 fresh_variable : (set : List Entry) (lit : Lit) → IsUnassigned (literals set) lit → (e : Entry) → Contains set e → variable_of e.lit ≡ variable_of lit → ⊥

@@ -6,6 +6,7 @@ use Rattle.std.proofs.lemmas.List.{get_or-map, get_or_default, length-set}
 use Rattle.lz_cnf.specs.declared.clause.Lit.{Lit}
 use Rattle.lz_cnf.specs.Models.{variable_of, negated}
 use Rattle.lz_cnf.specs.Partial.{IsFalseLit}
+use Rattle.lz_cnf.proofs.LitLemmas.{negated-negated, same_lit}
 use Rattle.lz_prop.specs.declared.inner.Inner.{Inner}
 use Rattle.lz_prop.specs.declared.watch.Watch.{Watch}
 use Rattle.lz_prop.specs.declared.watch.Watcher.{Watcher}
@@ -19,8 +20,6 @@ use Rattle.lz_prop.specs.Stored.{clauses_of}
 use Rattle.lz_prop.specs.Kept.{IsKept}
 use Rattle.lz_prop.specs.Further.{IsFurther, IsHandled, IsPropagated}
 use Rattle.lz_prop.specs.Walk.{IsWalk, IsTurn, IsWalking}
-use Rattle.lz_prop.proofs.LitLemmas.{negated-negated}
-use Rattle.lz_prop.proofs.ScanLemmas.{same_lit}
 use Rattle.lz_prop.proofs.WatchLemmas.{last_within, firsts_long, in_list, chain_unique, chain_some, chain_none, chain_short, list_fits, along_begins, along_stays, along_shifted, IsLeftAlong}
 use Rattle.lz_prop.proofs.WatchersLemmas.{guards_count, guard_read}
 use Rattle.lz_prop.proofs.GuardLemmas.{twin_within, twin_half, guards_moved, guards_satisfied, are_next, are_moved, guarded_quiet}

@@ -6,10 +6,8 @@ use Rattle.std.proofs.lemmas.List.{length-append, length-set, get_or_append_left
 use Rattle.std.proofs.lemmas.List.Elements.{recursion_from_All}
 use Rattle.std.proofs.lemmas.Map.Steps.{length-le_from_distinct_below}
 use Rattle.lz_cnf.specs.declared.clause.Lit.{Lit}
+use Rattle.lz_cnf.proofs.LitLemmas.{same_lit}
 use Rattle.lz_prop.specs.Watch.{IsChain, IsListed, AreListed, IsRun, last_of, AreApart, IsAlong, next_without, firsts_without, IsShifted}
-
-same_lit : (a b : Lit) → a.0 ≡ b.0 → a ≡ b
-same_lit a b h = ap (λ (n : ℕ). let l : Lit = record { 0 = n } in l) h
 
 -- ---- members
 

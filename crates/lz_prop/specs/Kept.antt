@@ -1,6 +1,7 @@
 -- Inner: how a trail is kept, what it stands for, and what holds of its parts.
 use Rattle.std.specs.Prelude.{◌≡◌, ◌*◌, ◌≤◌, length, take}
 use Rattle.std.specs.Vec.{vec_capacity}
+use Rattle.lz_cnf.specs.Models.{variable_bound}
 use Rattle.lz_prop.specs.declared.inner.Inner.{Inner}
 use Rattle.lz_prop.specs.Trail.{TrailState, IsTrail}
 use Rattle.lz_prop.specs.Guarded.{AreGuarded, WereGuarded, AreFronts}
@@ -33,7 +34,7 @@ pub record IsKept (t : Inner) : Type 0 where
   pub were : WereGuarded (clauses_of t.store) (guards_of t.watch) t.table.order.items t.starts.items t.fronts.items
   pub head_within : t.head ≤ length t.table.order.items
   pub seen_within : t.seen ≤ length (clauses_of t.store)
-  pub few : t.variables ≤ 2147483648
+  pub few : t.variables ≤ variable_bound
   pub order_room : t.variables ≤ vec_capacity t.table.order
   pub starts_room : t.variables ≤ vec_capacity t.starts
   pub fronts_room : t.variables ≤ vec_capacity t.fronts

@@ -22,6 +22,9 @@ use lz_base::Memory;
 use lz_cnf::{Cnf, Lit};
 use std::alloc::Global;
 
+/// 2^31: no formula has more variables, since a literal is a number of 32 bits.
+const VARIABLE_BOUND: u32 = 2_147_483_648;
+
 /// The parts of a trail. Each clause that was looked at has two watchers, of literals of its own: where one of these is
 /// false by a literal that was handled, the clause has a true literal. This holds at each decision too, by what was true
 /// and handled then, so that going back changes no watcher.
@@ -65,7 +68,7 @@ impl Inner {
         ensures kept { IfOk result (λ t. IsKept t) }
         ensures state { IfOk result (λ t. state_of t ≡ opening formula.now) }
     {
-        if formula.variables > 2147483648 {
+        if formula.variables > VARIABLE_BOUND {
             return Err(Memory);
         }
         let store = store_of(alloc, formula)?;

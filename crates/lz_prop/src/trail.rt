@@ -1,6 +1,6 @@
 ghost use Rattle.std.specs.Prelude.{◌≡◌, ℕ, ◌+◌, ◌*◌, ◌<◌, ◌≤◌, length, IsTrue, IsErr, is_err, IfOk, OnOk, OnErr};
 ghost use Rattle.std.specs.List.{All};
-ghost use Rattle.lz_cnf.specs.Models.{variable_of, IsFormula, NoneEmpty};
+ghost use Rattle.lz_cnf.specs.Models.{variable_bound, variable_of, IsFormula, NoneEmpty};
 ghost use Rattle.lz_cnf.specs.Partial.{IsUnassigned, IsQuiet};
 ghost use Rattle.lz_prop.specs.Trail.{IsTrail, literals, entry_of, value_in, level_in, reason_in, opening, decided, gone_back, with_clause, given_up, Extends, IsApart, WasOpen, HoldsClause};
 ghost use Rattle.lz_prop.specs.Outcome.{IsOutcome};
@@ -46,7 +46,7 @@ impl Trail {
         requires not_empty { NoneEmpty formula.now.clauses }
         ensures opening { IfOk result (λ t. t ≡ opening formula.now) }
         ensures trail { IfOk result (λ t. IsTrail t) }
-        ensures few { IfOk result (λ t. t.variables ≤ 2147483648) }
+        ensures few { IfOk result (λ t. t.variables ≤ variable_bound) }
     {
         let inner = Inner::new(alloc, formula)?;
         Ok(Trail { inner })

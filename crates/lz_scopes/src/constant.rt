@@ -4,7 +4,7 @@ ghost use Rattle.lz_tree.specs.Trees.{expression};
 ghost use Rattle.lz_scopes.specs.Constants as spec;
 
 use crate::value_types::{ValueType, value_type};
-use lz_base::{Binary, IntType, Unary, Value, binary, convert, unary};
+use lz_base::{Binary, IntType, SIGN_BOUND, Unary, VALUE_BOUND, Value, binary, convert, unary};
 use lz_tree::{Expr, Form, TypeName};
 
 /// The value of a constant expression, with its kind.
@@ -13,12 +13,6 @@ pub struct Word {
     pub kind: IntType,
     pub value: Value,
 }
-
-/// The number of words: a word is below it.
-const VALUE_BOUND: u64 = 4_294_967_296;
-
-/// The least word of kind `int` that stands for a number below zero.
-const SIGN_BOUND: u64 = 2_147_483_648;
 
 /// The kind of two operands together.
 pub fn joint(left: IntType, right: IntType) -> IntType

@@ -5,8 +5,9 @@ use Rattle.std.proofs.lemmas.Bool.{eqb-true}
 use Rattle.lz_cnf.specs.declared.clause.Lit.{Lit}
 use Rattle.lz_cnf.specs.Models.{variable_of, is_negated, IsTrueLit}
 use Rattle.lz_cnf.specs.Partial.{IsFalseLit, IsQuiet}
+use Rattle.lz_cnf.proofs.LitLemmas.{same_variable}
 use Rattle.lz_prop.specs.Trail.{Entry, TrailState, IsTrail, literals, entry_of, value_in}
-use Rattle.lz_prop.proofs.LitLemmas.{same_variable, Contains-map}
+use Rattle.lz_prop.proofs.LitLemmas.{Contains-map}
 use Rattle.lz_analyze.proofs.LevelLemmas.{each_or_some}
 
 -- a conflict spends one of the budget, whatever going back unsets; `b` conflicts are left after it

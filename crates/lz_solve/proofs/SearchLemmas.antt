@@ -7,15 +7,16 @@ use Rattle.std.proofs.Math.Seq.{take-append_seam}
 use Rattle.std.proofs.lemmas.List.Elements.{All-push, Contains-push}
 use Rattle.lz_cnf.specs.declared.clause.Lit.{Lit}
 use Rattle.lz_cnf.specs.declared.clause.Cnf.{Cnf}
-use Rattle.lz_cnf.specs.Models.{variable_of, negated, IsModel, IsTrueLit}
+use Rattle.lz_cnf.specs.Models.{variable_bound, variable_of, negated, IsModel, IsTrueLit}
 use Rattle.lz_cnf.specs.Partial.{IsUnassigned, IsQuiet}
+use Rattle.lz_cnf.proofs.LitLemmas.{variable_of-negated}
 use Rattle.lz_log.specs.declared.log.LogStep.{LogStep}
 use Rattle.lz_log.specs.Refutation.{FollowsBy, AreByHints, IsByHints, known_clauses}
 use Rattle.lz_log.specs.Newness.{IsNewClause, IsNewStep}
 use Rattle.lz_log.proofs.RefutationLemmas.{by_hints_push, known_push}
 use Rattle.lz_analyze.proofs.LeadsLemmas.{new_not_propagated}
 use Rattle.lz_prop.specs.Trail.{Entry, TrailState, IsTrail, Extends, literals, entry_of, value_in, decided, opening}
-use Rattle.lz_prop.proofs.LitLemmas.{variable_of-negated, Contains-from_map}
+use Rattle.lz_prop.proofs.LitLemmas.{Contains-from_map}
 use Rattle.lz_prop.proofs.EntryLemmas.{entries_fit}
 use Rattle.lz_solve.specs.Solving.{AreNewSteps, IsSpent, IsRefuted}
 use Rattle.lz_solve.specs.Search.{AreAssigned, IsSearch, IsStepOf, IsLearntInto}
@@ -211,10 +212,10 @@ turn_smaller formula conflicts s t log new search next =
 
 -- ---- the start
 
-pub begins : (formula : Cnf) (conflicts : ℕ) (s : TrailState) → s ≡ opening formula → IsTrail s → s.variables ≤ 2147483648 → 1 ≤ conflicts → IsSearch formula conflicts s []
+pub begins : (formula : Cnf) (conflicts : ℕ) (s : TrailState) → s ≡ opening formula → IsTrail s → s.variables ≤ variable_bound → 1 ≤ conflicts → IsSearch formula conflicts s []
 begins formula conflicts s is trail few positive = record {
   trail = trail;
-  few = subst (λ (n : ℕ). n ≤ 2147483648) (ap (λ (x : TrailState). x.variables) is) few;
+  few = subst (λ (n : ℕ). n ≤ variable_bound) (ap (λ (x : TrailState). x.variables) is) few;
   variables = ap (λ (x : TrailState). x.variables) is;
   clauses = ap (λ (x : TrailState). x.clauses) is ∙ sym (append-nil formula.clauses);
   steps = record { by_hints = tt; new = λ i d lt. absurd (omega arith); not_empty = λ k d lt. absurd (omega arith) };

@@ -1,6 +1,7 @@
 -- Inner: the state of the search between its turns.
 use Rattle.std.specs.Prelude.{◌≡◌, ◌≢◌, ℕ, ◌<◌, ◌≤◌, Bool, true, false, List, [], ◌∷◌, ◌++◌, length, Option, Some, None}
 use Rattle.lz_cnf.specs.declared.clause.Cnf.{Cnf}
+use Rattle.lz_cnf.specs.Models.{variable_bound}
 use Rattle.lz_log.specs.declared.log.LogStep.{LogStep}
 use Rattle.lz_log.specs.Refutation.{known_clauses, FollowsBy}
 use Rattle.lz_log.specs.Newness.{IsNewClause}
@@ -14,7 +15,7 @@ AreAssigned set count = (v : ℕ) → v < count → (value : Bool) × (value_in 
 -- the trail keeps the formula's clauses and those of the log, and conflicts are left
 pub record IsSearch (formula : Cnf) (conflicts : ℕ) (s : TrailState) (log : List LogStep) : Type 0 where
   pub trail : IsTrail s
-  pub few : formula.variables ≤ 2147483648
+  pub few : formula.variables ≤ variable_bound
   pub variables : s.variables ≡ formula.variables
   pub clauses : s.clauses ≡ known_clauses formula log
   pub steps : AreNewSteps formula log

@@ -1,5 +1,5 @@
 ghost use Rattle.std.specs.Prelude.{◌≡◌, ◌<◌, ◌≤◌, length, slice_index, slice_set, IfOk};
-ghost use Rattle.lz_cnf.specs.Models.{variable_of};
+ghost use Rattle.lz_cnf.specs.Models.{variable_bound, variable_of};
 
 use lz_base::Memory;
 use lz_cnf::Lit;
@@ -204,7 +204,7 @@ impl Order {
 
     /// The literal of a variable with the sign that it had last; the negated one at first.
     pub fn literal_of(&self, variable: u32) -> Lit
-        requires { variable < 2147483648 }
+        requires { variable < variable_bound }
         ensures { variable_of result ≡ variable }
     {
         let at = variable as usize;

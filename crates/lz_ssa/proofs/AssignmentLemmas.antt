@@ -4,8 +4,7 @@ use Rattle.std.specs.Prelude.{◌↔◌}
 use Rattle.std.specs.List.{AllByRecursion}
 use Rattle.lz_base.specs.Words.{value_bound}
 use Rattle.lz_base.specs.declared.word.IntType.TheVariants.{Unsigned}
-use Rattle.lz_flat.specs.declared.program.Guarded.{Guarded}
-use Rattle.lz_flat.specs.Programs.{Expression, Instruction, sets, takes, assumes, checks, skips, Statement, StraightProgram, statement}
+use Rattle.lz_flat.specs.Programs.{Expression, Instruction, sets, takes, assumes, checks, skips, Statement, StraightProgram}
 use Rattle.lz_flat.specs.Instructions.{did}
 use Rattle.lz_flat.specs.StraightRuns.{Fate, still, fails, straight}
 use Rattle.lz_flat.specs.WellFormed.{IsWord, IsExpressionOf, IsInstructionOf, IsStatementOf, IsWellFormed}
@@ -231,11 +230,6 @@ begun_words first p e = ap (λ (x : Progress). length x.drawn.words) e ∙ first
 -- what was made is what is constructed
 pub made_is : (list : List Statement) (first : List ℕ) (p q : Progress) → p ≡ begin first → q ≡ statements_made 0 list p → q ≡ constructed (record { list = list; first = first })
 made_is list first p q e f = f ∙ ap (statements_made 0 list) e
-
--- the view of a list is as long
-pub length_statements : (list : List Guarded) → length (map statement list) ≡ length list
-length_statements [] = refl
-length_statements (x ∷ xs) = ap suc (length_statements xs)
 
 -- the clauses, of any progress that is what is constructed
 pub made_fails : (program : StraightProgram) (count : ℕ) (q : Progress) → q ≡ constructed program → IsWellFormed program → length program.first ≤ 4294967296

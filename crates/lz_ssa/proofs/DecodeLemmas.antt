@@ -6,6 +6,7 @@ use Rattle.std.proofs.lemmas.Nat.{and_mask}
 use Rattle.std.proofs.lemmas.Nat.Bits.{and_high_mask}
 use Rattle.std.proofs.lemmas.Bool.{eqb-true, eqb-false, eq-eqb}
 use Rattle.lz_base.specs.Words.{value_bound, truth, is_true}
+use Rattle.lz_base.proofs.WordsLemmas.{both_truths}
 use Rattle.lz_base.specs.declared.operator.Binary.{Binary}
 use Rattle.lz_base.specs.declared.operator.Binary.TheVariants as binaries
 use Rattle.lz_base.specs.declared.word.IntType.TheVariants.{Unsigned}
@@ -149,13 +150,6 @@ pub tested_none : (inputs : ℕ) (d : Drawn) (f : (ℕ → ℕ) → ℕ) (step :
 tested_none inputs d f step = record { means = λ k lt. absurd (let z : ⊥ = omega arith in z) }
 
 -- ---- splitting a number
-
--- the conjunction of two truth values
-both_truths : (a b : Bool) → truth (is_true (truth a) && is_true (truth b)) ≡ truth (a && b)
-both_truths true true = refl
-both_truths true false = refl
-both_truths false true = refl
-both_truths false false = refl
 
 -- an index is a place exactly where its group and its place in the group are
 pub split_is : (i place : ℕ) → i < value_bound → ((bit_and i group_mask == (place / 32) * 32) && (bit_and i place_mask == (place % 32) * 1)) ≡ (i == place)

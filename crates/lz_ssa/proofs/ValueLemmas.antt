@@ -1,8 +1,8 @@
 -- The words of nodes: those of the nodes before stay, one node more adds one word, and each is a word.
-use Rattle.std.proofs.Common.{◌≡◌, ℕ, zero, suc, ◌+◌, ◌-◌, ◌<◌, List, [], ◌∷◌, ◌++◌, length, get_or, slice_index, eqb, Bool, true, false, cond, refl, ◌∙◌, ap, subst, arith}
+use Rattle.std.proofs.Common.{◌≡◌, ℕ, zero, suc, ◌+◌, ◌-◌, ◌<◌, List, [], ◌∷◌, ◌++◌, length, get_or, slice_index, eqb, refl, ◌∙◌, ap, subst, arith}
 use Rattle.std.proofs.lemmas.List.{length-append, get_or_append_left, get_or-append_right}
 use Rattle.lz_base.specs.Words.{value_bound}
-use Rattle.lz_base.proofs.WordsLemmas.{unary_word, binary_word, converted_word}
+use Rattle.lz_base.proofs.WordsLemmas.{choose_word, unary_word, binary_word, converted_word}
 use Rattle.lz_ssa.specs.declared.node.Node.{Node}
 use Rattle.lz_ssa.specs.declared.node.Node.TheVariants.{Constant, Input, Unary, Binary, Convert, Choose}
 use Rattle.lz_ssa.specs.NodeValues.{node_value, values_from, values_of, IsNodeOf, AreNodesFrom}
@@ -77,11 +77,6 @@ AreWords input = (k : ℕ) → input k < value_bound
 -- each number of the list is a word
 abbrev pub Words : List ℕ → Type 0
 Words words = (k : ℕ) → slice_index words k < value_bound
-
--- a choice of words is a word
-choose_word : (b : Bool) (x y : ℕ) → x < value_bound → y < value_bound → cond b x y < value_bound
-choose_word true x y h k = h
-choose_word false x y h k = k
 
 -- the word of a node is a word
 pub node_word : (inputs before : ℕ) (x : Node) (input : ℕ → ℕ) (words : List ℕ) → IsNodeOf inputs before x → AreWords input → Words words → node_value x input words < value_bound

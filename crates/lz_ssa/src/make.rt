@@ -1,8 +1,9 @@
 ghost use Rattle.std.specs.Prelude.{ℕ, ◌≡◌, ◌≤◌, ◌<◌, ◌^◌, List, length, map, slice_index, OnOk, IfOk};
 ghost use Rattle.std.specs.List.{AllByRecursion};
+ghost use Rattle.lz_base.specs.Limits.{cost_limit};
 ghost use Rattle.lz_flat.specs.Programs.{statement, straight_program};
 ghost use Rattle.lz_flat.specs.WellFormed.{IsStatementOf, IsWellFormed};
-ghost use Rattle.lz_flat.specs.Weight.{straight_weight, most_weight};
+ghost use Rattle.lz_flat.specs.Weight.{straight_weight};
 ghost use Rattle.lz_ssa.specs.Construction as spec;
 ghost use Rattle.lz_ssa.specs.Drafts.{progress};
 ghost use Rattle.lz_ssa.specs.NodeValues.{AreWellFormed};
@@ -32,7 +33,7 @@ fn add_statements(alloc: Global, building: &mut Building, list: &[Guarded]) -> R
 pub fn nodes(alloc: Global, straight: &Straight) -> Result<Nodes, Memory>
     requires formed { IsWellFormed (straight_program straight.now) }
     requires words { length straight.now.first < 2 ^ 32 }
-    requires light { straight_weight (straight_program straight.now) ≤ most_weight }
+    requires light { straight_weight (straight_program straight.now) ≤ cost_limit }
 
     ensures fails { IfOk result (FailsAsStraight (straight_program straight.now)) }
     ensures inputs { IfOk result (λ made. made.inputs ≡ length straight.now.list) }

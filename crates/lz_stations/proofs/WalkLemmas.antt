@@ -11,7 +11,7 @@ use Rattle.lz_model.proofs.FrontsLemmas.{Fronts, FrontCalls, fronts_updates, fro
 use Rattle.lz_turns.specs.Stages as stages
 use Rattle.lz_turns.specs.Stages.{Point, Came, settles}
 use Rattle.lz_turns.specs.Seen.{Seen, Alike}
-use Rattle.lz_turns.specs.Resumed.{resumed, behind, Comes, PartComes}
+use Rattle.lz_turns.specs.Resumed.{resumed, behind, PartComes}
 use Rattle.lz_turns.proofs.SeenLemmas.{alike_same, alike_back, alike_alike, alike_then, alike_behind, alike_value, alike_halts, alike_leaves, alike_assoc, alike_chooses, alike_choice, alike_renamed}
 use Rattle.lz_stations.specs.Stations.{Station, Footing, at_station, in_value, in_part, Pause, acts, reads, asks, signals, creates, calls_on, Reached, leads, pauses, fails, refuses, quits, stops, StationMove, enters_value, enters_part, moves_on, reaches}
 use Rattle.lz_stations.specs.Stations as at
@@ -168,10 +168,6 @@ begun_part_near n s station before after reached (Some a) is part = begun_part n
 pub value_missing : (o : Option ScopedExpression) (point : Point) (given : ℕ) (before : Locals) → None ≡ o → PartComes o point given before stages.stops before
 value_missing None point given before is = refl
 value_missing (Some e) point given before is = absurd cc
-
-pub value_there : (o : Option ScopedExpression) (e : ScopedExpression) (point : Point) (given : ℕ) (before after : Locals) (came : Came) → Some e ≡ o → Comes e point given before came after → PartComes o point given before came after
-value_there None e point given before after came is h = absurd cc
-value_there (Some b) e point given before after came is h = let same : e ≡ b = cc in subst (λ (x : ScopedExpression). Comes x point given before came after) same h
 
 pub part_missing : (bound : ℕ) (o : Option ScopedStatement) (footing : Footing) (given : ℕ) (before : Locals) → None ≡ o → InnerComes bound o footing given before stops before
 part_missing bound None footing given before is = refl

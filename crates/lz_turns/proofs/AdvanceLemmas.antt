@@ -20,9 +20,7 @@ use Rattle.lz_turns.specs.Turning.{turned_by, StaysAt, Entered, ComesBehind, Goe
 use Rattle.lz_turns.proofs.MovesLemmas.{turns_so}
 use Rattle.lz_turns.proofs.RanksLemmas.{turn_falls}
 use Rattle.lz_turns.proofs.NearsLemmas.{step_over, nears_more, turn_nears_more, told_nears, within_nears, entered_nears}
-
-part_is : (o : Option ScopedExpression) (a : ScopedExpression) (code : ScopedExpression → Behaviour Locals ℕ) → o ≡ Some a → (s : Locals) → Alike (code a) s (with_part o code) s
-part_is o a code e s = subst (λ (x : Option ScopedExpression). Alike (code a) s (with_part x code) s) (sym e) (alike_same (code a) s)
+use Rattle.lz_turns.proofs.CallsLemmas.{part_is}
 
 part_none : (o : Option ScopedExpression) (code : ScopedExpression → Behaviour Locals ℕ) → o ≡ None → (s t : Locals) → Alike (with_part o code) s halts t
 part_none o code e s t = subst (λ (x : Option ScopedExpression). Alike (with_part x code) s halts t) (sym e) (record { there = record { leads = λ full out h. of full out h }; back = record { leads = λ full out h. of2 full out h } })

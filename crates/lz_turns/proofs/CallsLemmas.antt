@@ -40,7 +40,8 @@ rest_some (and x rest) (suc k) a e = rest_some rest k a e
 is_same : {P Q : Behaviour Locals ℕ} → P ≡ Q → (s : Locals) → Alike P s Q s
 is_same {P} e s = subst (λ (X : Behaviour Locals ℕ). Alike P s X s) e (alike_same P s)
 
-part_is : (o : Option ScopedExpression) (a : ScopedExpression) (code : ScopedExpression → Behaviour Locals ℕ) → o ≡ Some a → (s : Locals) → Alike (code a) s (with_part o code) s
+-- a part that is there
+pub part_is : (o : Option ScopedExpression) (a : ScopedExpression) (code : ScopedExpression → Behaviour Locals ℕ) → o ≡ Some a → (s : Locals) → Alike (code a) s (with_part o code) s
 part_is o a code e s = subst (λ (x : Option ScopedExpression). Alike (code a) s (with_part x code) s) (sym e) (alike_same (code a) s)
 
 does_ends : (line : ℕ) (action : Action) (v : ℕ) (s : Locals) → Alike (does line action v) s (does line action zero and_then λ _. ends_with v) s

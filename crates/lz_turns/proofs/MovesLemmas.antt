@@ -9,13 +9,13 @@ use Rattle.lz_tree.specs.declared.scoped.Object.TheVariants.{Local, Cell, Mutex,
 use Rattle.lz_tree.specs.ScopedTrees.{ScopedExpression, constant, null, text, object, address, paren, unary, cast, binary, choose, assign, step, call, lvalue, ScopedIndex, whole, element}
 use Rattle.lz_model.specs.Behaviours.{ends_with, stays, ◌and_then◌, ◌gives◌, picks}
 use Rattle.lz_model.specs.CodeTraces.{Locals, Calls, read_at, write_at, first_of, kind_of_object, kind_or, kind_of, right_operand, operated, is_division, checks_divisor, behind_first, assigned, stepped, expression_trace}
-use Rattle.lz_model.proofs.FrontsLemmas.{FrontCalls, fronts_expression}
+use Rattle.lz_model.proofs.FrontsLemmas.{FrontCalls, fronts_expression, fronts_checks_index, fronts_divisor}
 use Rattle.lz_turns.specs.Stages.{Stage, start, given, settled, indexed, ready, old, valued, writing, operand, first, second, taken, other, calling, argument, passing, handed, arguing, argued, woken, made}
 use Rattle.lz_turns.specs.Moves.{begin_move, indexed_move, ready_move, old_move, old_locals, valued_move, writing_move, writing_locals, operand_move, both_move, either_move, left_move, chosen_move, first_move, right_move, second_move, branch_move, turn_of, left_by, called}
 use Rattle.lz_turns.specs.Seen.{Alike}
 use Rattle.lz_turns.specs.Resumed.{write_element, behind_check, behind_operand, behind_value, behind_read, behind_place, behind_index, behind_one, right_trace, behind_two, behind_taken, behind_other, stage_trace, moved}
 use Rattle.lz_turns.proofs.SeenLemmas.{alike_same, alike_alike, alike_then, alike_behind, alike_value, alike_loc, alike_gives, alike_ends}
-use Rattle.lz_turns.proofs.StepsLemmas.{fronts_checks_index, fronts_divisor, fronts_read, fronts_write, read_same, write_same, place_begins, index_moves, divide_moves, read_moves, write_moves}
+use Rattle.lz_turns.proofs.StepsLemmas.{fronts_read, fronts_write, read_same, write_same, place_begins, index_moves, divide_moves, read_moves, write_moves}
 use Rattle.lz_turns.proofs.CallsLemmas.{callings, argument_behind, passings, handed_behind, arguings, argued_behind, wokens, mades, call_starts}
 
 -- ---- stages of a node

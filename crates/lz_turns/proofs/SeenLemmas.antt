@@ -1,22 +1,14 @@
 -- What may be done with Loc left out: each way in which code is put together keeps it.
-use Rattle.std.proofs.Common.{◌≡◌, ℕ, ◌⊎◌, inl, inr, Bool, true, false, List, [], ◌∷◌, ◌++◌, refl, sym, ◌∙◌, ap, subst, append_assoc}
+use Rattle.std.proofs.Common.{◌≡◌, ℕ, ◌⊎◌, inl, inr, Bool, List, [], ◌∷◌, ◌++◌, refl, sym, ◌∙◌, ap, subst, append_assoc}
 use Rattle.std.proofs.lemmas.List.{append-nil}
 use Rattle.lz_model.specs.declared.actions.Action.TheVariants.{Loc}
-use Rattle.lz_model.specs.Actions.{Act, is_loc}
+use Rattle.lz_model.specs.Actions.{Act}
 use Rattle.lz_model.specs.Behaviours.{Outcome, done, exits, cut, Behaviour, ends_with, halts, leaves, updates, stays, tells, chooses, GoesOn, ◌and_then◌, ◌gives◌}
 use Rattle.lz_model.specs.CodeTraces.{at}
-use Rattle.lz_model.specs.WithoutLoc.{left_out, without_loc}
+use Rattle.lz_model.specs.WithoutLoc.{without_loc}
 use Rattle.lz_model.proofs.FrontsLemmas.{Fronts}
+use Rattle.lz_model.proofs.OneRunLemmas.{without_loc-append}
 use Rattle.lz_turns.specs.Seen.{Seen, Follows, Alike}
-
--- Loc left out of two lists, one after the other
-left_out-append : {A : Type 0} (b : Bool) (x : A) (xs ys : List A) → left_out b x (xs ++ ys) ≡ left_out b x xs ++ ys
-left_out-append true x xs ys = refl
-left_out-append false x xs ys = refl
-
-pub without-append : (xs ys : List Act) → without_loc (xs ++ ys) ≡ without_loc xs ++ without_loc ys
-without-append [] ys = refl
-without-append (x ∷ xs) ys = ap (λ (l : List Act). left_out (is_loc x.action) x l) (without-append xs ys) ∙ left_out-append (is_loc x.action) x (without_loc xs) (without_loc ys)
 
 nil_left : (xs ys : List Act) → xs ++ ys ≡ [] → (xs ≡ []) × (ys ≡ [])
 nil_left [] ys e = (refl, e)
@@ -57,7 +49,7 @@ module _ {S A B : Type 0} where
       by (inl h) = inl (record {
         full = h.full ++ g.rest;
         does = close h.full g.rest (record { value = g.value; middle = g.middle; front = h.full; rest = g.rest; joined = refl; starts = h.does; goes = g.goes });
-        seen = without-append h.full g.rest ∙ (ap (λ (x : List Act). x ++ without_loc g.rest) h.seen ∙ (sym (without-append g.front g.rest) ∙ sym (ap without_loc g.joined)));
+        seen = without_loc-append h.full g.rest ∙ (ap (λ (x : List Act). x ++ without_loc g.rest) h.seen ∙ (sym (without_loc-append g.front g.rest) ∙ sym (ap without_loc g.joined)));
       })
       by (inr h) = absurd cc
 
@@ -88,12 +80,12 @@ module _ {S A B : Type 0} where
         | inl h ↦ inl (record {
           full = g.front ++ h.full;
           does = close (g.front ++ h.full) (record { value = g.value; middle = g.middle; front = g.front; rest = h.full; joined = refl; starts = g.starts; goes = h.does });
-          seen = without-append g.front h.full ∙ (ap (λ (x : List Act). without_loc g.front ++ x) h.seen ∙ (sym (without-append g.front g.rest) ∙ sym (ap without_loc g.joined)));
+          seen = without_loc-append g.front h.full ∙ (ap (λ (x : List Act). without_loc g.front ++ x) h.seen ∙ (sym (without_loc-append g.front g.rest) ∙ sym (ap without_loc g.joined)));
         })
         | inr h ↦ inl (record {
           full = g.front;
           does = stop h.1 (fronts.front before g.front [] (done g.middle g.value) (subst (λ (x : List Act). code before x (done g.middle g.value)) (sym (append-nil g.front)) g.starts));
-          seen = sym (append-nil (without_loc g.front)) ∙ (ap (λ (x : List Act). without_loc g.front ++ x) (sym h.0) ∙ (sym (without-append g.front g.rest) ∙ sym (ap without_loc g.joined)));
+          seen = sym (append-nil (without_loc g.front)) ∙ (ap (λ (x : List Act). without_loc g.front ++ x) (sym h.0) ∙ (sym (without_loc-append g.front g.rest) ∙ sym (ap without_loc g.joined)));
         })
       ]
 

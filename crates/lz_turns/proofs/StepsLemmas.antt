@@ -3,13 +3,12 @@ use Rattle.std.proofs.Common.{ℕ, zero, suc, ◌+◌, Bool, true, false, nat_lt
 use Rattle.lz_base.specs.Words.{truth}
 use Rattle.lz_base.specs.declared.word.BreakKind.{BreakKind}
 use Rattle.lz_base.specs.declared.word.BreakKind.TheVariants as kinds
-use Rattle.lz_base.specs.declared.operator.Binary.{Binary}
 use Rattle.lz_tree.specs.declared.scoped.Object.{Object}
 use Rattle.lz_tree.specs.declared.scoped.Object.TheVariants.{Local, Cell, Mutex, Cond, Handle, Routine, Known}
 use Rattle.lz_tree.specs.ScopedTrees.{ScopedExpression, lvalue, ScopedIndex, whole, element}
 use Rattle.lz_model.specs.Behaviours.{Behaviour, ends_with, ◌and_then◌, picks}
-use Rattle.lz_model.specs.CodeTraces.{Locals, set_local, Calls, checks, read_at, write_at, needs, bounds, checks_index, len_of, first_of, is_division, checks_divisor, place_trace, index_trace}
-use Rattle.lz_model.proofs.FrontsLemmas.{Fronts, FrontCalls, fronts_then, fronts_value, fronts_halts, fronts_updates, fronts_tells, fronts_picks, fronts_chooses, fronts_expression}
+use Rattle.lz_model.specs.CodeTraces.{Locals, set_local, Calls, checks, read_at, write_at, needs, bounds, checks_index, len_of, first_of, place_trace, index_trace}
+use Rattle.lz_model.proofs.FrontsLemmas.{Fronts, FrontCalls, fronts_value, fronts_halts, fronts_updates, fronts_tells, fronts_chooses, fronts_expression}
 use Rattle.lz_turns.specs.Stages.{Stage}
 use Rattle.lz_turns.specs.Moves.{check_move, need_move, bound_move, index_move, divide_move, read_move, write_move, written}
 use Rattle.lz_turns.specs.Seen.{Alike}
@@ -21,25 +20,6 @@ use Rattle.lz_turns.proofs.SeenLemmas.{alike_same, alike_alike, alike_behind, al
 pub fronts_index : (calls : Calls) → FrontCalls calls → (index : ScopedIndex) → Fronts (index_trace calls index)
 fronts_index calls c whole = fronts_value
 fronts_index calls c (element e) = fronts_expression calls c e
-
-fronts_checks : (line value : ℕ) (kind : BreakKind) → Fronts (checks line value kind)
-fronts_checks line zero kind = fronts_then fronts_updates (λ v. fronts_halts)
-fronts_checks line (suc value) kind = fronts_updates
-
-fronts_needs : (fits : Bool) → Fronts (needs fits)
-fronts_needs true = fronts_value
-fronts_needs false = fronts_halts
-
-fronts_bounds : (line : ℕ) (checked fits : Bool) → Fronts (bounds line checked fits)
-fronts_bounds line true fits = fronts_needs fits
-fronts_bounds line false fits = fronts_checks line (truth fits) kinds.Bounds
-
-pub fronts_checks_index : (line : ℕ) (meant : Object) (index : ScopedIndex) (checked : Bool) (i : ℕ) → Fronts (checks_index line meant index checked i)
-fronts_checks_index line meant whole checked i = fronts_value
-fronts_checks_index line meant (element index) checked i = fronts_bounds line checked (nat_lt i (len_of meant))
-
-pub fronts_divisor : (line : ℕ) (op : Binary) (divisor : ℕ) → Fronts (checks_divisor line op divisor)
-fronts_divisor line op divisor = fronts_picks (is_division op) (fronts_checks line divisor kinds.DivZero) fronts_value
 
 pub fronts_read : (line : ℕ) (meant : Object) (e : ℕ) → Fronts (read_element line meant e)
 fronts_read line (Local f len kind) e = fronts_tells

@@ -8,7 +8,7 @@ use Rattle.lz_cnf.specs.declared.clause.Lit.{Lit}
 use Rattle.lz_cnf.specs.Models.{variable_of}
 use Rattle.lz_analyze.specs.Walks.{IsWalk}
 use Rattle.lz_analyze.specs.Walking.{IsTodo}
-use Rattle.lz_analyze.proofs.WalkingLemmas.{IsInserted, was_none, was_any, keys_more, keys_same, any_contains, met_open, met_low, met_again}
+use Rattle.lz_analyze.proofs.WalkingLemmas.{IsInserted, was_none, was_any, keys_more, keys_same, any_contains, met_open, met_low, met_first}
 use Rattle.lz_analyze.proofs.walk.Walk.meet.Goals as goal
 
 own_new : (old new : List ℕ) (v : ℕ) (added : Bool) → IsInserted old new v added → added ≡ true → Contains new v
@@ -70,7 +70,7 @@ returns-else-branch-clause-walk c rest over =
     record {
       walk = subst (λ (keys : List ℕ). IsWalk s (IsTodo s w.at rest) keys w.low.items w.at w.pending (reverse w.hints.items))
           (sym (keys_same w.marks.keys c.insert.new.self.keys (variable_of c.args.lit) c.in_ok-insert.field-0 is c.if-branch.false))
-          (met_again s rest w.marks.keys w.low.items w.at w.pending (reverse w.hints.items) c.args.lit c.requires.trail over.walk
+          (met_first s rest w.marks.keys w.low.items w.at w.pending (reverse w.hints.items) c.args.lit c.requires.trail over.walk
           (was_any w.marks.keys c.insert.new.self.keys (variable_of c.args.lit) c.in_ok-insert.field-0 is c.if-branch.false));
       some = over.some;
     }
