@@ -1,15 +1,16 @@
 -- One turn of a step of a thread, its end, and the instructions that are passed over.
-use Rattle.std.proofs.Common.{◌≡◌, ℕ, zero, suc, ◌+◌, ◌-◌, ◌≤◌, ◌<◌, Bool, true, false, cond, List, [], ◌∷◌, length, map, drop, get_or, eqb, slice_index_or, All, refl, sym, ◌∙◌, ap, subst, arith}
+use Rattle.std.proofs.Common.{◌≡◌, ℕ, zero, suc, ◌+◌, ◌-◌, ◌≤◌, ◌<◌, Bool, true, false, cond, List, [], ◌∷◌, length, map, drop, get_or, eqb, slice_index_or, All, Ok, Err, refl, sym, ◌∙◌, ap, subst, arith}
 use Rattle.std.specs.List.{AllByRecursion}
 use Rattle.std.proofs.lemmas.List.{drop_more, drop_all, drop-map}
 use Rattle.lz_base.specs.declared.word.BreakKind.{BreakKind}
-use Rattle.lz_flat.specs.declared.perform.Performed.TheVariants as performed
+use Rattle.lz_flat.specs.declared.perform.Halt.{Halt}
+use Rattle.lz_flat.specs.declared.perform.Halt.TheVariants as halts
 use Rattle.lz_flat.specs.declared.program.Marked.{Marked}
 use Rattle.lz_flat.specs.Programs.{Instruction, sets, takes, assumes, checks, skips, MarkedInstruction, marked, instruction}
 use Rattle.lz_flat.specs.Instructions.{moved, blocked, broke, value, did}
 use Rattle.lz_flat.specs.FlatRuns.{Ran, went, held, breaks, ended, onward, step}
 use Rattle.lz_flat.specs.WellFormed.{IsWord, IsInstructionOf, IsMarkedSo, IsForward, IsCodeOf}
-use Rattle.lz_flat.specs.Steps.{Performs, onward_count, step_count}
+use Rattle.lz_flat.specs.Steps.{Performs, RunsOn, Steps, onward_count, step_count}
 
 -- ---- passing over instructions
 
@@ -154,7 +155,7 @@ behind_drop code at over =
 -- a turn of the loop keeps what is left
 pub left_moves : (code : List Marked) (input : ℕ → ℕ) (from : ℕ) (start : List ℕ) (at used : ℕ) (memory after : List ℕ) (next : Marked) (over n : ℕ) → LeftFrom code input from start at used memory
     → IsCodeOf n (map marked code) → at < length code → next ≡ get_or code at next → next.visible ≡ false
-    → Performs (instruction next.instr) (input at) memory after (performed.Moved over) → All IsWord after → length after ≡ length memory
+    → Performs (instruction next.instr) (input at) memory after (Ok over) → All IsWord after → length after ≡ length memory
     → LeftFrom code input from start (at + (1 + over)) (used + 1) after
 left_moves code input from start at used memory after next over n left is lt e v performs words size =
     let more = more_at code at next lt e in
@@ -182,13 +183,23 @@ left_moves code input from start at used memory after next over n left is lt e v
 -- a turn that breaks breaks the walk from the start
 pub left_breaks : (code : List Marked) (input : ℕ → ℕ) (from : ℕ) (start : List ℕ) (at used : ℕ) (memory after : List ℕ) (next : Marked) (kind : BreakKind) (line : ℕ) → LeftFrom code input from start at used memory
     → at < length code → next ≡ get_or code at next → next.visible ≡ false
-    → Performs (instruction next.instr) (input at) memory after (performed.Broke kind line)
+    → Performs (instruction next.instr) (input at) memory after (Err (halts.Broke kind line))
     → onward input from (drop from (map marked code)) 0 start ≡ breaks kind line
 left_breaks code input from start at used memory after next kind line left lt e v performs =
     let more = more_at code at next lt e in
     let rest = map marked (drop (at + 1) code) in
     let old = subst (λ (part : List Marked). onward input at (map marked part) 0 memory ≡ onward input from (map marked (drop from code)) 0 start) more left.same in
     rw (drop-map marked from code) (sym old ∙ onward_breaks input at (marked next) rest memory kind line v performs.0)
+
+-- a turn that stops stops the walk from the start
+pub left_halts : (code : List Marked) (input : ℕ → ℕ) (from : ℕ) (start : List ℕ) (at used : ℕ) (memory after : List ℕ) (next : Marked) (halt : Halt) (n : ℕ) → LeftFrom code input from start at used memory
+    → IsCodeOf n (map marked code) → at < length code → next ≡ get_or code at next → next.visible ≡ false
+    → Performs (instruction next.instr) (input at) memory after (Err halt) → RunsOn (map marked code) input from start after (Err halt)
+left_halts code input from start at used memory after next halts.Blocked n left is lt e v performs =
+    let unseen = subst (λ (b : Bool). IsInstructionAt n (length code - at) (instruction next.instr) b) v (instruction_at n code at next is lt e) in
+    not_blocked _ _ _ _ _ unseen performs.0
+left_halts code input from start at used memory after next (halts.Broke kind line) n left is lt e v performs =
+    left_breaks code input from start at used memory after next kind line left lt e v performs
 
 -- at the end the walk leads to the end
 onward_ends : (input : ℕ → ℕ) (l : ℕ) (memory : List ℕ) → onward input l [] 0 memory ≡ went l memory
@@ -259,19 +270,19 @@ step_ends code input at memory h = rw (drop_all at (map marked code) (let k = le
 
 -- a step whose first instruction is blocked is held
 pub step_blocked : (code : List Marked) (input : ℕ → ℕ) (at : ℕ) (memory after : List ℕ) (next : Marked) → at < length code → next ≡ get_or code at next
-    → Performs (instruction next.instr) (input at) memory after performed.Blocked → step input (map marked code) at memory ≡ held
+    → Performs (instruction next.instr) (input at) memory after (Err halts.Blocked) → step input (map marked code) at memory ≡ held
 unfolding step
 step_blocked code input at memory after next lt e performs = rw (drop_marked code at next lt e, performs.0) refl
 
 -- a step whose first instruction breaks breaks
 pub step_breaks : (code : List Marked) (input : ℕ → ℕ) (at : ℕ) (memory after : List ℕ) (next : Marked) (kind : BreakKind) (line : ℕ) → at < length code → next ≡ get_or code at next
-    → Performs (instruction next.instr) (input at) memory after (performed.Broke kind line) → step input (map marked code) at memory ≡ breaks kind line
+    → Performs (instruction next.instr) (input at) memory after (Err (halts.Broke kind line)) → step input (map marked code) at memory ≡ breaks kind line
 unfolding step
 step_breaks code input at memory after next kind line lt e performs = rw (drop_marked code at next lt e, performs.0) refl
 
 -- behind the first instruction of a step come those from its place on
 pub step_moves : (code : List Marked) (input : ℕ → ℕ) (at : ℕ) (memory after : List ℕ) (next : Marked) (over : ℕ) (r : Ran) → at < length code → next ≡ get_or code at next
-    → Performs (instruction next.instr) (input at) memory after (performed.Moved over) → onward input (at + (1 + over)) (drop (at + (1 + over)) (map marked code)) 0 after ≡ r
+    → Performs (instruction next.instr) (input at) memory after (Ok over) → onward input (at + (1 + over)) (drop (at + (1 + over)) (map marked code)) 0 after ≡ r
     → step input (map marked code) at memory ≡ r
 unfolding step
 step_moves code input at memory after next over r lt e performs led =
@@ -283,7 +294,7 @@ step_moves code input at memory after next over r lt e performs led =
 
 -- a step whose first instruction moves on counts it and those behind it
 pub step_counts : (code : List Marked) (input : ℕ → ℕ) (at : ℕ) (memory after : List ℕ) (next : Marked) (over : ℕ) → at < length code → next ≡ get_or code at next
-    → Performs (instruction next.instr) (input at) memory after (performed.Moved over)
+    → Performs (instruction next.instr) (input at) memory after (Ok over)
     → suc (onward_count input (at + (1 + over)) (drop (at + (1 + over)) (map marked code)) 0 after) ≡ step_count input (map marked code) at memory
 unfolding step_count
 step_counts code input at memory after next over lt e performs =
@@ -292,6 +303,20 @@ step_counts code input at memory after next over lt e performs =
     count_skip input (map marked (drop (at + 1) code)) (suc at) over after
     ∙ rw (place, behind_drop code at over, drop-map marked (at + (1 + over)) code) refl in
     rw (drop_marked code at next lt e, performs) (ap suc (sym skipped))
+
+-- a step whose first instruction stops stops
+pub step_halts : (code : List Marked) (input : ℕ → ℕ) (at : ℕ) (memory after : List ℕ) (next : Marked) (halt : Halt) → at < length code → next ≡ get_or code at next
+    → Performs (instruction next.instr) (input at) memory after (Err halt) → Steps (map marked code) input at at memory after (Err halt)
+step_halts code input at memory after next halts.Blocked lt e performs = (step_blocked code input at memory after next lt e performs, refl, performs.1)
+step_halts code input at memory after next (halts.Broke kind line) lt e performs = (step_breaks code input at memory after next kind line lt e performs, refl)
+
+-- so does one that is stopped behind its first instruction
+pub step_halts_behind : (code : List Marked) (input : ℕ → ℕ) (at : ℕ) (memory after later : List ℕ) (next : Marked) (over : ℕ) (halt : Halt) → at < length code → next ≡ get_or code at next
+    → Performs (instruction next.instr) (input at) memory after (Ok over) → RunsOn (map marked code) input (at + (1 + over)) after later (Err halt)
+    → Steps (map marked code) input at at memory later (Err halt)
+step_halts_behind code input at memory after later next over halts.Blocked lt e performs runs = absurd runs
+step_halts_behind code input at memory after later next over (halts.Broke kind line) lt e performs runs =
+    (step_moves code input at memory after next over (breaks kind line) lt e performs runs, refl)
 
 -- the code of a thread of a program
 pub code_at : (threads : List (List Marked)) (thread : ℕ) (code : List Marked) → thread < length threads → code ≡ get_or threads thread code → slice_index_or (map (λ c. map marked c) threads) thread [] ≡ map marked code
@@ -307,7 +332,7 @@ codes_at n (x ∷ xs) (suc thread) code all lt e = codes_at n xs thread code all
 
 -- the first instruction of a step moves no further than the end of the code
 pub first_within : (n : ℕ) (code : List Marked) (input : ℕ → ℕ) (at : ℕ) (memory after : List ℕ) (next : Marked) (over : ℕ) → IsCodeOf n (map marked code) → at < length code → next ≡ get_or code at next
-    → Performs (instruction next.instr) (input at) memory after (performed.Moved over) → at + (1 + over) ≤ length code
+    → Performs (instruction next.instr) (input at) memory after (Ok over) → at + (1 + over) ≤ length code
 first_within n code input at memory after next over is lt e performs =
     let within = moves_within n (length code - at) (instruction next.instr) next.visible (input at) memory over after (instruction_at n code at next is lt e) (omega arith) performs in
     omega (arith, within)

@@ -1,10 +1,10 @@
 -- One turn of a run of a straight program, and its end.
-use Rattle.std.proofs.Common.{◌≡◌, ◌≢◌, ℕ, zero, suc, ◌+◌, ◌≤◌, ◌<◌, inl, inr, Bool, true, false, List, [], ◌∷◌, length, map, drop, get_or, eqb, All, refl, sym, ◌∙◌, ap, subst, arith}
+use Rattle.std.proofs.Common.{◌≡◌, ◌≢◌, ℕ, zero, suc, ◌+◌, ◌≤◌, ◌<◌, inl, inr, Bool, true, false, List, [], ◌∷◌, length, map, drop, get_or, eqb, All, Ok, Err, refl, sym, ◌∙◌, ap, subst, arith}
 use Rattle.std.specs.List.{AllByRecursion}
 use Rattle.std.proofs.lemmas.List.{drop_more, drop_all}
 use Rattle.std.proofs.lemmas.Bool.{eqb-true}
 use Rattle.lz_base.specs.declared.word.BreakKind.{BreakKind}
-use Rattle.lz_flat.specs.declared.perform.Performed.TheVariants as performed
+use Rattle.lz_flat.specs.declared.perform.Halt.TheVariants as halts
 use Rattle.lz_flat.specs.declared.program.Guarded.{Guarded}
 use Rattle.lz_flat.specs.Programs.{Statement, statement}
 use Rattle.lz_flat.specs.Instructions.{value, did}
@@ -53,7 +53,7 @@ at_next list first input i memory next runs lt e =
 
 -- a statement that moves on leaves the run from the next on
 pub moves : (list : List Guarded) (first : List ℕ) (input : ℕ → ℕ) (i : ℕ) (memory after : List ℕ) (next : Guarded) (over : ℕ) → RunsFrom list first input i memory → i < length list → next ≡ get_or list i next
-    → PerformsGuarded (statement next) (input i) memory after (performed.Moved over) → All IsWord after → length after ≡ length memory → RunsFrom list first input (i + 1) after
+    → PerformsGuarded (statement next) (input i) memory after (Ok over) → All IsWord after → length after ≡ length memory → RunsFrom list first input (i + 1) after
 moves list first input i memory after next over runs lt e performs words size = record {
   same = subst (λ (k : ℕ). straight input k rest after ≡ straight input 0 (map statement list) first) (let z : suc i ≡ i + 1 = omega arith in z) (behind performs);
   words = words;
@@ -66,7 +66,7 @@ moves list first input i memory after next over runs lt e performs words size = 
     here : straight input i (statement next ∷ rest) memory ≡ straight input 0 (map statement list) first
     here = at_next list first input i memory next runs lt e
 
-    behind : PerformsGuarded (statement next) (input i) memory after (performed.Moved over) → straight input (suc i) rest after ≡ straight input 0 (map statement list) first
+    behind : PerformsGuarded (statement next) (input i) memory after (Ok over) → straight input (suc i) rest after ≡ straight input 0 (map statement list) first
     behind (inl idle) = subst (λ (m : List ℕ). straight input (suc i) rest m ≡ straight input 0 (map statement list) first) (sym idle.1)
         (sym (straight_passed input i (statement next) rest memory idle.0) ∙ here)
     behind (inr runs) =
@@ -74,7 +74,7 @@ moves list first input i memory after next over runs lt e performs words size = 
 
 -- one that is blocked stops the run
 pub stops_here : (list : List Guarded) (first : List ℕ) (input : ℕ → ℕ) (i : ℕ) (memory after : List ℕ) (next : Guarded) → RunsFrom list first input i memory → i < length list → next ≡ get_or list i next
-    → PerformsGuarded (statement next) (input i) memory after performed.Blocked → straight input 0 (map statement list) first ≡ fails → ⊥
+    → PerformsGuarded (statement next) (input i) memory after (Err halts.Blocked) → straight input 0 (map statement list) first ≡ fails → ⊥
 stops_here list first input i memory after next runs lt e performs failed =
     let rest = map statement (drop (i + 1) list) in
     let ran : straight input i (statement next ∷ rest) memory ≡ stops = straight_taken input i (statement next) rest memory performs.0 ∙ rw performs.1 refl in
@@ -83,7 +83,7 @@ stops_here list first input i memory after next runs lt e performs failed =
 
 -- one that breaks fails it
 pub fails_here : (list : List Guarded) (first : List ℕ) (input : ℕ → ℕ) (i : ℕ) (memory after : List ℕ) (next : Guarded) (kind : BreakKind) (line : ℕ) → RunsFrom list first input i memory → i < length list → next ≡ get_or list i next
-    → PerformsGuarded (statement next) (input i) memory after (performed.Broke kind line) → straight input 0 (map statement list) first ≡ fails
+    → PerformsGuarded (statement next) (input i) memory after (Err (halts.Broke kind line)) → straight input 0 (map statement list) first ≡ fails
 fails_here list first input i memory after next kind line runs lt e performs =
     let rest = map statement (drop (i + 1) list) in
     let ran : straight input i (statement next ∷ rest) memory ≡ fails = straight_taken input i (statement next) rest memory performs.0 ∙ rw performs.1 refl in

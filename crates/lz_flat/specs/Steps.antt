@@ -1,9 +1,7 @@
 -- Inner: what the calls that run instructions leave behind.
-use Rattle.std.specs.Prelude.{◌≡◌, ◌≢◌, ◌⊎◌, ℕ, zero, suc, List, [], ◌∷◌, drop, if◌then◌else◌}
-use Rattle.lz_flat.specs.declared.perform.Performed.{Performed}
-use Rattle.lz_flat.specs.declared.perform.Performed.TheVariants as performed
-use Rattle.lz_flat.specs.declared.step.Advanced.{Advanced}
-use Rattle.lz_flat.specs.declared.step.Advanced.TheVariants as advanced
+use Rattle.std.specs.Prelude.{◌≡◌, ◌≢◌, ◌⊎◌, ℕ, zero, suc, List, [], ◌∷◌, drop, Result, Ok, Err, if◌then◌else◌}
+use Rattle.lz_flat.specs.declared.perform.Halt.{Halt}
+use Rattle.lz_flat.specs.declared.perform.Halt.TheVariants as halts
 use Rattle.lz_flat.specs.declared.step.Stepped.{Stepped}
 use Rattle.lz_flat.specs.declared.step.Stepped.TheVariants as stepped
 use Rattle.lz_flat.specs.Programs.{Instruction, MarkedInstruction, Statement}
@@ -11,10 +9,10 @@ use Rattle.lz_flat.specs.Instructions.{Did, moved, blocked, broke, value, did}
 use Rattle.lz_flat.specs.FlatRuns.{went, held, breaks, ended, onward, step}
 
 -- an instruction came to this, from one memory to another
-abbrev pub Performs : Instruction → ℕ → List ℕ → List ℕ → Performed → Type 0
-Performs i input before after (performed.Moved over) = did i input before ≡ moved over after
-Performs i input before after performed.Blocked = (did i input before ≡ blocked) × (after ≡ before)
-Performs i input before after (performed.Broke kind line) = (did i input before ≡ broke kind line) × (after ≡ before)
+abbrev pub Performs : Instruction → ℕ → List ℕ → List ℕ → Result ℕ Halt → Type 0
+Performs i input before after (Ok over) = did i input before ≡ moved over after
+Performs i input before after (Err halts.Blocked) = (did i input before ≡ blocked) × (after ≡ before)
+Performs i input before after (Err (halts.Broke kind line)) = (did i input before ≡ broke kind line) × (after ≡ before)
 
 -- ---- how many instructions a step runs
 
@@ -45,25 +43,25 @@ step_count input code place memory = count_from input place (drop place code) me
 -- ---- a step
 
 -- the instructions behind the first of a step, from a place on, came to this
-abbrev pub RunsOn : List MarkedInstruction → (ℕ → ℕ) → ℕ → List ℕ → List ℕ → Advanced → Type 0
-RunsOn code input from before after (advanced.Went place used) =
-    (onward input from (drop from code) 0 before ≡ went place after) × (used ≡ suc (onward_count input from (drop from code) 0 before))
-RunsOn code input from before after advanced.Blocked = ⊥
-RunsOn code input from before after (advanced.Broke kind line) = onward input from (drop from code) 0 before ≡ breaks kind line
+abbrev pub RunsOn : List MarkedInstruction → (ℕ → ℕ) → ℕ → List ℕ → List ℕ → Result (ℕ × ℕ) Halt → Type 0
+RunsOn code input from before after (Ok end) =
+    (onward input from (drop from code) 0 before ≡ went end.0 after) × (end.1 ≡ suc (onward_count input from (drop from code) 0 before))
+RunsOn code input from before after (Err halts.Blocked) = ⊥
+RunsOn code input from before after (Err (halts.Broke kind line)) = onward input from (drop from code) 0 before ≡ breaks kind line
 
 -- a step came to this, and led from one place and memory to another
-abbrev pub Steps : List MarkedInstruction → (ℕ → ℕ) → ℕ → ℕ → List ℕ → List ℕ → Stepped → Type 0
-Steps code input place next before after (stepped.Went used) =
+abbrev pub Steps : List MarkedInstruction → (ℕ → ℕ) → ℕ → ℕ → List ℕ → List ℕ → Result Stepped Halt → Type 0
+Steps code input place next before after (Ok (stepped.Went used)) =
     (step input code place before ≡ went next after) × (used ≡ step_count input code place before)
-Steps code input place next before after stepped.Blocked = (step input code place before ≡ held) × (next ≡ place) × (after ≡ before)
-Steps code input place next before after (stepped.Broke kind line) = (step input code place before ≡ breaks kind line) × (next ≡ place)
-Steps code input place next before after stepped.Ended = (step input code place before ≡ ended) × (next ≡ place) × (after ≡ before)
+Steps code input place next before after (Err halts.Blocked) = (step input code place before ≡ held) × (next ≡ place) × (after ≡ before)
+Steps code input place next before after (Err (halts.Broke kind line)) = (step input code place before ≡ breaks kind line) × (next ≡ place)
+Steps code input place next before after (Ok stepped.Ended) = (step input code place before ≡ ended) × (next ≡ place) × (after ≡ before)
 
 -- a statement came to this, from one memory to another
-abbrev pub PerformsGuarded : Statement → ℕ → List ℕ → List ℕ → Performed → Type 0
-PerformsGuarded statement input before after (performed.Moved over) =
+abbrev pub PerformsGuarded : Statement → ℕ → List ℕ → List ℕ → Result ℕ Halt → Type 0
+PerformsGuarded statement input before after (Ok over) =
     ((value statement.guard before ≡ 0) × (after ≡ before)) ⊎ ((value statement.guard before ≢ 0) × (did statement.instr input before ≡ moved over after))
-PerformsGuarded statement input before after performed.Blocked =
+PerformsGuarded statement input before after (Err halts.Blocked) =
     (value statement.guard before ≢ 0) × (did statement.instr input before ≡ blocked)
-PerformsGuarded statement input before after (performed.Broke kind line) =
+PerformsGuarded statement input before after (Err (halts.Broke kind line)) =
     (value statement.guard before ≢ 0) × (did statement.instr input before ≡ broke kind line)

@@ -10,6 +10,7 @@ mod step;
 mod straight;
 
 pub use build::{binary_expr, choose_expr, copy_expr, copy_instr, copy_spot};
+pub use perform::Halt;
 pub use program::{
     Flat, FlatExpr, FlatThread, FlatThreads, Guarded, GuardedList, Instr, Marked, Spot, Straight,
 };

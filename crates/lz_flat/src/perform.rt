@@ -8,14 +8,12 @@ use crate::evaluate::evaluate;
 use crate::program::{Instr, Spot};
 use lz_base::{BreakKind, Value};
 
-/// What an instruction came to.
-#[derive(Clone, Copy)]
-pub enum Performed {
-    /// It moved on, over so many of the instructions behind it.
-    Moved { over: u32 },
-    /// It is an assumption of 0.
+/// What stops a run.
+#[derive(Clone, Copy, Debug, PartialEq, Eq)]
+pub enum Halt {
+    /// An assumption of 0.
     Blocked,
-    /// It is a check of 0.
+    /// A check of 0.
     Broke { kind: BreakKind, line: u32 },
 }
 
@@ -34,9 +32,9 @@ fn write(to: &Spot, value: Value, memory: &mut [Value])
     }
 }
 
-/// Performs an instruction with its input.
+/// Performs an instruction with its input, and moves on over so many of the instructions behind it.
 #[tactic(auto, unfolding(crate::specs::Instructions::did))]
-pub fn perform(instr: &Instr, input: Value, memory: &mut [Value]) -> Performed
+pub fn perform(instr: &Instr, input: Value, memory: &mut [Value]) -> Result<u32, Halt>
     requires within { IsInstructionOf (length memory.old) (instruction instr.now) }
     requires words { All IsWord memory.old }
     requires word { IsWord input }
@@ -47,34 +45,32 @@ pub fn perform(instr: &Instr, input: Value, memory: &mut [Value]) -> Performed
         Instr::Set { to, value } => {
             let value = evaluate(value, memory);
             write(to, value, memory);
-            Performed::Moved { over: 0 }
+            Ok(0)
         }
         Instr::Input { to } => {
             write(to, input, memory);
-            Performed::Moved { over: 0 }
+            Ok(0)
         }
         Instr::Assume { test } => {
             if evaluate(test, memory) == 0 {
-                return Performed::Blocked;
+                return Err(Halt::Blocked);
             }
-            Performed::Moved { over: 0 }
+            Ok(0)
         }
         Instr::Check { test, kind, line } => {
             if evaluate(test, memory) == 0 {
-                return Performed::Broke {
+                return Err(Halt::Broke {
                     kind: *kind,
                     line: *line,
-                };
+                });
             }
-            Performed::Moved { over: 0 }
+            Ok(0)
         }
         Instr::Skip { test, by } => {
             if evaluate(test, memory) == 0 {
-                return Performed::Moved { over: 0 };
+                return Ok(0);
             }
-            Performed::Moved {
-                over: by.saturating_sub(1),
-            }
+            Ok(by.saturating_sub(1))
         }
     }
 }

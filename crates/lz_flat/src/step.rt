@@ -3,33 +3,26 @@ ghost use Rattle.lz_flat.specs.Programs.{marked, flat_program, code_of};
 ghost use Rattle.lz_flat.specs.WellFormed.{IsCodeOf, IsWellMarked, BeginsVisible, IsWord};
 ghost use Rattle.lz_flat.specs.Steps.{RunsOn, Steps};
 
-use crate::perform::{Performed, perform};
+use crate::perform::{Halt, perform};
 use crate::program::{Flat, Marked};
-use lz_base::{BreakKind, Value};
-
-/// Where the instructions behind the first of a step lead.
-#[derive(Clone, Copy)]
-enum Advanced {
-    Went { place: u32, used: u32 },
-    Blocked,
-    Broke { kind: BreakKind, line: u32 },
-}
+use lz_base::Value;
 
 /// What a step of a thread came to.
 #[derive(Clone, Copy, Debug, PartialEq, Eq)]
 pub enum Stepped {
     /// It ran so many instructions.
     Went { used: u32 },
-    /// Its visible instruction is an assumption of 0. Nothing changed.
-    Blocked,
-    /// A check of 0. The memory may have changed, and the place has not.
-    Broke { kind: BreakKind, line: u32 },
     /// The thread has no instruction left.
     Ended,
 }
 
-/// Runs the instructions from a place on, up to a visible one or the end.
-fn run_on(code: &[Marked], inputs: &[Value], from: u32, memory: &mut [Value]) -> Advanced
+/// Runs the instructions from a place on, up to a visible one or the end: its place, and how many ran.
+fn run_on(
+    code: &[Marked],
+    inputs: &[Value],
+    from: u32,
+    memory: &mut [Value],
+) -> Result<(u32, u32), Halt>
     requires code { IsCodeOf (length memory.old) (map marked code.now) }
     requires short { length code.now < 2 ^ 32 }
     requires words { All IsWord memory.old }
@@ -45,28 +38,22 @@ fn run_on(code: &[Marked], inputs: &[Value], from: u32, memory: &mut [Value]) ->
     while at < code.len() {
         let next = &code[at];
         if next.visible {
-            return Advanced::Went {
-                place: at as u32,
-                used,
-            };
+            return Ok((at as u32, used));
         }
-        match perform(&next.instr, inputs[at], memory) {
-            Performed::Moved { over } => {
-                at += 1 + over as usize;
-                used += 1;
-            }
-            Performed::Blocked => return Advanced::Blocked,
-            Performed::Broke { kind, line } => return Advanced::Broke { kind, line },
-        }
+        let over = perform(&next.instr, inputs[at], memory)?;
+        at += 1 + over as usize;
+        used += 1;
     }
-    Advanced::Went {
-        place: at as u32,
-        used,
-    }
+    Ok((at as u32, used))
 }
 
 /// One step of a thread with this code.
-fn step_code(code: &[Marked], memory: &mut [Value], place: &mut u32, inputs: &[Value]) -> Stepped
+fn step_code(
+    code: &[Marked],
+    memory: &mut [Value],
+    place: &mut u32,
+    inputs: &[Value],
+) -> Result<Stepped, Halt>
     requires code { IsCodeOf (length memory.old) (map marked code.now) }
     requires short { length code.now < 2 ^ 32 }
     requires words { All IsWord memory.old }
@@ -77,33 +64,25 @@ fn step_code(code: &[Marked], memory: &mut [Value], place: &mut u32, inputs: &[V
 {
     let at = *place as usize;
     if at >= code.len() {
-        return Stepped::Ended;
+        return Ok(Stepped::Ended);
     }
     let first = &code[at];
-    let over = match perform(&first.instr, inputs[at], memory) {
-        Performed::Moved { over } => over,
-        Performed::Blocked => return Stepped::Blocked,
-        Performed::Broke { kind, line } => return Stepped::Broke { kind, line },
-    };
-    match run_on(code, inputs, *place + (1 + over), memory) {
-        Advanced::Went { place: next, used } => {
-            *place = next;
-            Stepped::Went { used }
-        }
-        Advanced::Blocked => Stepped::Blocked,
-        Advanced::Broke { kind, line } => Stepped::Broke { kind, line },
-    }
+    let over = perform(&first.instr, inputs[at], memory)?;
+    let (next, used) = run_on(code, inputs, *place + (1 + over), memory)?;
+    *place = next;
+    Ok(Stepped::Went { used })
 }
 
 /// One step of a thread: the instruction at its place, with those that follow up to the next visible one
-/// or the end. Takes no memory.
+/// or the end. Takes no memory. Where its visible instruction is an assumption of 0 nothing changed; where a check is 0 the
+/// memory may have changed, and the place has not.
 pub fn flat_step(
     flat: &Flat,
     thread: u32,
     memory: &mut [Value],
     place: &mut u32,
     inputs: &[Value],
-) -> Stepped
+) -> Result<Stepped, Halt>
     requires marked { IsWellMarked (flat_program flat.now) }
     requires thread { thread < length flat.now.threads }
     requires short { length (code_of (flat_program flat.now) thread) < 2 ^ 32 }

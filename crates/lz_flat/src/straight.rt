@@ -6,12 +6,12 @@ ghost use Rattle.lz_flat.specs.StraightRuns.{FailsOn};
 ghost use Rattle.lz_flat.specs.Steps.{Performs, PerformsGuarded};
 
 use crate::evaluate::evaluate;
-use crate::perform::{Performed, perform};
+use crate::perform::{Halt, perform};
 use crate::program::{Guarded, Straight};
 use lz_base::Value;
 
 /// Performs a statement with its input.
-fn perform_guarded(next: &Guarded, input: Value, memory: &mut [Value]) -> Performed
+fn perform_guarded(next: &Guarded, input: Value, memory: &mut [Value]) -> Result<u32, Halt>
     requires within { IsStatementOf (length memory.old) (statement next.now) }
     requires words { All IsWord memory.old }
     requires word { IsWord input }
@@ -19,7 +19,7 @@ fn perform_guarded(next: &Guarded, input: Value, memory: &mut [Value]) -> Perfor
     ensures words { All IsWord memory.new }
 {
     if evaluate(&next.guard, memory) == 0 {
-        return Performed::Moved { over: 0 };
+        return Ok(0);
     }
     perform(&next.instr, input, memory)
 }
@@ -36,9 +36,9 @@ pub fn straight_run(straight: &Straight, inputs: &[Value], memory: &mut [Value])
     let list = straight.list.items();
     for i in 0..list.len() {
         match perform_guarded(&list[i], inputs[i], memory) {
-            Performed::Moved { over: _ } => {}
-            Performed::Blocked => return false,
-            Performed::Broke { kind: _, line: _ } => return true,
+            Ok(_) => {}
+            Err(Halt::Blocked) => return false,
+            Err(Halt::Broke { kind: _, line: _ }) => return true,
         }
     }
     false

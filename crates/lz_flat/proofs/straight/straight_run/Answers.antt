@@ -8,26 +8,26 @@ perform_guarded-requires-clause-within c =
     let at = rw c.items-list.ensures at c.index-list-i.is in
     rw c.loop-i.invariant.size (statement_at _ c.args.straight.now.list c.loop-i.i c.index-list-i.result c.requires.formed.statements lt at)
 
-pub returns-in-Blocked : goal.returns-in-Blocked
-returns-in-Blocked c =
+pub returns-in-Err-Blocked : goal.returns-in-Err-Blocked
+returns-in-Err-Blocked c =
     let lt = rw c.items-list.ensures at c.loop-i-test.true in
     let at = rw c.items-list.ensures at c.index-list-i.is in
-    let performs = rw c.in-Blocked.is at c.perform_guarded.ensures.performs in
+    let performs = rw (c.in-Err-Blocked.is, c.in-Err-Blocked.field-0-is) at c.perform_guarded.ensures.performs in
     ((λ is. absurd cc), λ failed. absurd (stops_here _ _ _ _ _ c.perform_guarded.new.memory c.index-list-i.result c.loop-i.invariant lt at performs failed))
 
-pub returns-in-Broke : goal.returns-in-Broke
-returns-in-Broke c =
+pub returns-in-Err-Broke : goal.returns-in-Err-Broke
+returns-in-Err-Broke c =
     let lt = rw c.items-list.ensures at c.loop-i-test.true in
     let at = rw c.items-list.ensures at c.index-list-i.is in
-    let performs = rw c.in-Broke.is at c.perform_guarded.ensures.performs in
-    ((λ is. fails_here _ _ _ _ _ c.perform_guarded.new.memory c.index-list-i.result c.in-Broke.kind c.in-Broke.line c.loop-i.invariant lt at performs), λ failed. refl)
+    let performs = rw (c.in-Err-Broke.is, c.in-Err-Broke.field-0-is) at c.perform_guarded.ensures.performs in
+    ((λ is. fails_here _ _ _ _ _ c.perform_guarded.new.memory c.index-list-i.result c.in-Err-Broke.field-0-0 c.in-Err-Broke.field-0-1 c.loop-i.invariant lt at performs), λ failed. refl)
 
 pub loop-i-preserved : goal.loop-i-preserved
 loop-i-preserved c =
     let lt = rw c.items-list.ensures at c.loop-i-test.true in
     let at = rw c.items-list.ensures at c.index-list-i.is in
-    let performs = rw c.in-Moved.is at c.perform_guarded.ensures.performs in
-    moves _ _ _ _ _ _ c.index-list-i.result c.in-Moved.over c.loop-i.invariant lt at performs c.perform_guarded.ensures.words (omega arith)
+    let performs = rw c.in-Ok.is at c.perform_guarded.ensures.performs in
+    moves _ _ _ _ _ _ c.index-list-i.result _ c.loop-i.invariant lt at performs c.perform_guarded.ensures.words (omega arith)
 
 pub returns : goal.returns
 returns c =
