@@ -66,7 +66,7 @@ fn main(rt: HostRuntime) -> io::Result<()> {
             rt.alloc(),
             text.as_str(),
             conflicts,
-            further(words.next().as_ref().map(|word| word.as_str())),
+            asked(words.next().as_ref().map(|word| word.as_str())),
         ),
         Err(_) => recheck(&rt, rt.alloc(), text.as_str()),
     };
@@ -78,7 +78,7 @@ fn main(rt: HostRuntime) -> io::Result<()> {
 }
 
 /// What a third word asks for.
-fn further(word: Option<&str>) -> Further {
+fn asked(word: Option<&str>) -> Further {
     match word {
         Some("proof") => Further::Print,
         Some("alone") => Further::Nothing,
