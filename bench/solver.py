@@ -4,8 +4,9 @@ conflicts and propagations a second. Run it from the top of the repository, with
 crates/lz_bench): bench/solver.py [FILE.cnf | FOLDER ...]
 
 Beside the files it makes random formulas of three-literal clauses at the hard ratio of 4.26, pigeonhole formulas and long
-implication chains. Times are those of the processor, without the time of other programs. Where minisat is missing, its
-columns are empty."""
+implication chains. Times are those of the processor, without the time of other programs: of solving alone, and what
+checking the log adds to that. A propagation is a literal that becomes true. Where minisat is missing, its columns are
+empty."""
 
 import os
 import random
@@ -36,16 +37,18 @@ def timed(words):
 
 
 def ours(path):
-    """Answer, conflicts and seconds of the driver, which checks the log too."""
-    text, seconds = timed([DRIVER, path, str(CONFLICTS)])
+    """Answer, conflicts, propagations and seconds of the driver, and the seconds that it takes more to check the log."""
+    text, seconds = timed([DRIVER, path, str(CONFLICTS), "alone"])
     if text is None:
-        return "UNDECIDED", None, seconds
-    words = text.split()
-    if words[0] == "UNSAT":
-        if words[1] != words[4]:
-            sys.exit(f"{path}: step {words[4]} does not follow")
-        return "UNSAT", int(words[1]), seconds
-    return words[0], None, seconds
+        return "UNDECIDED", None, None, seconds, None
+    answer, conflicts, propagations = text.split()[0:5:2]
+    if answer == "SAT":
+        return answer, int(conflicts), int(propagations), seconds, None
+    text, whole = timed([DRIVER, path, str(CONFLICTS)])
+    words = text.splitlines()[1].split() if text else None
+    if words is not None and words[1] != words[7]:
+        sys.exit(f"{path}: step {words[7]} does not follow")
+    return answer, int(conflicts), int(propagations), seconds, whole - seconds if words else None
 
 
 def minisat(path):
@@ -123,21 +126,24 @@ def ratio(one, other):
 def main():
     if not os.access(DRIVER, os.X_OK):
         sys.exit("needs the driver built: rt run in crates/lz_bench")
-    print("| formula | answer | conflicts | seconds | conflicts / minisat's | seconds / minisat's | minisat's propagations a second |")
-    print("|---|---|---|---|---|---|---|")
+    print("| formula | answer | conflicts | seconds | check | propagations a second | conflicts / minisat's | seconds / minisat's "
+          "| propagations a second / minisat's |")
+    print("|---|---|---|---|---|---|---|---|---|")
     with tempfile.TemporaryDirectory() as folder:
         for path in paths(folder, sys.argv[1:]):
-            answer, conflicts, seconds = ours(path)
+            answer, conflicts, propagations, seconds, checked = ours(path)
+            rate = ratio(propagations, max(seconds, 0.01))
             other = minisat(path)
             cells = ["", "", ""]
             if other is not None:
-                theirs, their_conflicts, propagations, their_seconds = other
+                theirs, their_conflicts, their_propagations, their_seconds = other
                 if "UNDECIDED" not in (answer, theirs) and answer not in (theirs, "SPENT"):
                     sys.exit(f"{path}: {answer}, and minisat answers {theirs}")
                 cells = [shown(ratio(conflicts, their_conflicts)), shown(ratio(seconds, max(their_seconds, 0.01)), 1),
-                         shown(ratio(propagations, max(their_seconds, 0.01)), 0)]
+                         shown(ratio(rate, ratio(their_propagations, max(their_seconds, 0.01))))]
             name = os.path.basename(path)[:-4]
-            print(f"| {name} | {answer} | {'-' if conflicts is None else conflicts} | {seconds:.2f} | {' | '.join(cells)} |", flush=True)
+            print(f"| {name} | {answer} | {'-' if conflicts is None else conflicts} | {seconds:.2f} | {shown(checked)} | {shown(rate, 0)} "
+                  f"| {' | '.join(cells)} |", flush=True)
 
 
 if __name__ == "__main__":

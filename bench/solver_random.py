@@ -186,15 +186,19 @@ def run(folder, text, *words):
 def check_answer(variables, clauses, output):
     """Compares an answer with brute force and this script's checker. Answers the proof text, or None."""
     head, _, rest = output.partition(b"\n")
-    kind = head.split()[0]
+    kind, _, conflicts = head.split()[:3]
     if kind == b"SAT":
         values = [word == b"1" for word in rest.split()]
         if len(values) != variables or not all(any(values[abs(lit) - 1] == (lit > 0) for lit in clause) for clause in clauses):
             raise AssertionError("no model")
         return None
+    told, _, rest = rest.partition(b"\n")
+    steps, follow = (int(word) for word in told.split()[1::6])
     said = read(rest)
     if not isinstance(said, tuple) or said[0] != variables or said[1] != clauses:
         raise AssertionError(f"the text does not say the formula: {said}")
+    if not steps == follow == len(said[2]) == int(conflicts):
+        raise AssertionError("the log has other steps than there were conflicts, or its check finds a bad one")
     bad = first_bad(clauses, said[2])
     known = list(clauses)
     for clause, _ in said[2]:

@@ -1,6 +1,7 @@
 //! A driver for benchmarks of the solver, which is no part of the product: it reads a formula in DIMACS, searches for a
-//! model within a number of conflicts, checks the log, and prints what was found. With the word `proof` it prints the
-//! model or the proof text too. With the word `recheck` it reads a proof text and checks its log.
+//! model within a number of conflicts, checks the log, and prints what was found, with the numbers of conflicts and
+//! propagations. With the word `proof` it prints the model or the proof text too, with the word `alone` it does not check
+//! the log. With the word `recheck` it reads a proof text and checks its log.
 #![tactic(auto)]
 
 ghost use Rattle.lz_cnf.specs.Models.{IsFormula};
@@ -13,9 +14,20 @@ use fit::{has_room, is_fit};
 use lz_base::Memory;
 use lz_cnf::{Assignment, Cnf};
 use lz_log::{Log, ProofError, Scratch, check_log, print_proof, read_proof};
-use lz_solve::{Solved, solve};
+use lz_solve::{Counts, Solved, solve_counted};
 use std::alloc::Global;
 use std::{env, fs, io};
+
+/// What is done with an answer beside telling it.
+#[derive(Clone, Copy, PartialEq, Eq)]
+enum Further {
+    /// A log is checked.
+    Check,
+    /// A log is checked, and the model or the proof text is printed.
+    Print,
+    /// Nothing.
+    Nothing,
+}
 
 /// What stops a run: the outside, or want of memory.
 #[derive(Drop)]
@@ -43,7 +55,9 @@ impl From<Memory> for Trouble {
 fn main(rt: HostRuntime) -> io::Result<()> {
     let mut words = env::args(&rt)?.skip(1);
     let (Some(path), Some(what)) = (words.next(), words.next()) else {
-        return println!(rt; "usage: lz_bench FILE CONFLICTS [proof] | lz_bench FILE recheck");
+        return println!(rt;
+            "usage: lz_bench FILE CONFLICTS [proof | alone] | lz_bench FILE recheck"
+        );
     };
     let text = fs::read_to_string(&rt, path.as_str())?;
     let ended = match what.as_str().parse::<u64>() {
@@ -52,7 +66,7 @@ fn main(rt: HostRuntime) -> io::Result<()> {
             rt.alloc(),
             text.as_str(),
             conflicts,
-            words.next().is_some(),
+            asked(words.next().as_ref().map(|word| word.as_str())),
         ),
         Err(_) => recheck(&rt, rt.alloc(), text.as_str()),
     };
@@ -63,13 +77,22 @@ fn main(rt: HostRuntime) -> io::Result<()> {
     }
 }
 
+/// What a third word asks for.
+fn asked(word: Option<&str>) -> Further {
+    match word {
+        Some("proof") => Further::Print,
+        Some("alone") => Further::Nothing,
+        _ => Further::Check,
+    }
+}
+
 /// Decides a formula and checks the log.
 fn decide(
     rt: &impl Print,
     alloc: Global,
     text: &str,
     conflicts: u64,
-    proof: bool,
+    further: Further,
 ) -> Result<(), Trouble> {
     let Some(formula) = read_formula(alloc, text)? else {
         println!(rt; "not a formula")?;
@@ -79,22 +102,35 @@ fn decide(
         println!(rt; "not within the limits")?;
         return Ok(());
     }
-    match solve(alloc, &formula, conflicts)? {
-        Solved::Sat(values) => tell_model(rt, &formula, &values, proof),
-        Solved::Unsat(log) => tell_log(rt, alloc, "UNSAT", &formula, &log, proof),
-        Solved::Spent(log) => tell_log(rt, alloc, "SPENT", &formula, &log, proof),
+    let mut counts = Counts::new();
+    match solve_counted(alloc, &formula, conflicts, &mut counts)? {
+        Solved::Sat(values) => {
+            tell_counts(rt, "SAT", counts)?;
+            tell_model(rt, &values, further)
+        }
+        Solved::Unsat(log) => {
+            tell_counts(rt, "UNSAT", counts)?;
+            tell_log(rt, alloc, &formula, &log, further)
+        }
+        Solved::Spent(log) => {
+            tell_counts(rt, "SPENT", counts)?;
+            tell_log(rt, alloc, &formula, &log, further)
+        }
     }
 }
 
-/// Tells a model.
-fn tell_model(
-    rt: &impl Print,
-    formula: &Cnf,
-    values: &Assignment,
-    proof: bool,
-) -> Result<(), Trouble> {
-    println!(rt; "SAT")?;
-    if proof {
+/// Tells an answer, and what the search did.
+fn tell_counts(rt: &impl Print, answer: &str, counts: Counts) -> Result<(), Trouble> {
+    println!(rt;
+        "{answer} conflicts {} propagations {}",
+        counts.conflicts, counts.propagations
+    )?;
+    Ok(())
+}
+
+/// Tells a model, where it is asked for.
+fn tell_model(rt: &impl Print, values: &Assignment, further: Further) -> Result<(), Trouble> {
+    if further == Further::Print {
         for value in values.items() {
             println!(rt; "{}", u8::from(*value))?;
         }
@@ -106,13 +142,15 @@ fn tell_model(
 fn tell_log(
     rt: &impl Print,
     alloc: Global,
-    answer: &str,
     formula: &Cnf,
     log: &Log,
-    proof: bool,
+    further: Further,
 ) -> Result<(), Trouble>
     requires { IsFormula formula.now }
 {
+    if further == Further::Nothing {
+        return Ok(());
+    }
     let mut literals = 0u64;
     let mut hints = 0u64;
     for step in log.items() {
@@ -120,11 +158,11 @@ fn tell_log(
         hints = hints.wrapping_add(step.hints.items().len() as u64);
     }
     println!(rt;
-        "{answer} {} {literals} {hints} {}",
+        "log {} literals {literals} hints {hints} bad {}",
         log.items().len(),
         bad_step(alloc, formula, log)?
     )?;
-    if proof {
+    if further == Further::Print {
         let text = print_proof(alloc, formula, log)?;
         if let Ok(text) = std::str::from_utf8(text.items()) {
             print!(rt; "{text}")?;

@@ -2,10 +2,12 @@
 #![tactic(auto)]
 
 mod choice;
+mod counts;
 mod order;
 mod search;
 
-pub use search::{Solved, solve};
+pub use counts::Counts;
+pub use search::{Solved, solve, solve_counted};
 
 #[cfg(test)]
 mod tests;

@@ -7,6 +7,7 @@ ghost use Rattle.lz_solve.specs.Turns.{IsTurn};
 ghost use Rattle.lz_solve.specs.Search.{AreAssigned, IsSearch, IsLearntInto};
 
 use crate::choice::{choose, end_conflict, go_back, raise_hints};
+use crate::counts::Counts;
 use crate::order::Order;
 use lz_analyze::learn;
 use lz_base::{Memory, Sequence};
@@ -124,6 +125,7 @@ fn turn_at_quiet(
     order: &mut Order,
     trail: &mut Trail,
     log: &Log,
+    counts: &mut Counts,
 ) -> Result<Turn, Memory>
     requires search { IsSearch formula.now conflicts trail.old log.now }
     requires quiet { IsQuiet (literals trail.old.set) trail.old.clauses }
@@ -132,6 +134,7 @@ fn turn_at_quiet(
     match choose(order, trail, formula.variables) {
         Some(variable) => {
             trail.decide(order.literal_of(variable));
+            counts.decided();
             Ok(Turn::Next)
         }
         None => {
@@ -149,16 +152,21 @@ fn take_turn(
     order: &mut Order,
     trail: &mut Trail,
     log: &mut Log,
+    counts: &mut Counts,
 ) -> Result<Turn, Memory>
     requires search { IsSearch formula.now conflicts trail.old log.old }
     requires room { length formula.now.clauses + conflicts < 2 ^ 32 }
     ensures { IfOk result (λ turn. IsTurn formula.now conflicts trail.old log.old trail.new log.new turn) }
 {
-    match trail.propagate()? {
+    let before = trail.order().len();
+    let propagated = trail.propagate()?;
+    counts.propagated(before, trail.order().len());
+    match propagated {
         Propagated::Conflict { clause } => {
+            counts.ran_into_conflict();
             turn_at_conflict(alloc, formula, conflicts, order, trail, log, clause)
         }
-        Propagated::Quiet => turn_at_quiet(alloc, formula, conflicts, order, trail, log),
+        Propagated::Quiet => turn_at_quiet(alloc, formula, conflicts, order, trail, log, counts),
     }
 }
 
@@ -171,11 +179,30 @@ pub fn solve(alloc: Global, formula: &Cnf, conflicts: u64) -> Result<Solved, Mem
     requires room { length formula.now.clauses + conflicts < 2 ^ 32 }
     ensures { IfOk result (λ s. IsSolved formula.now conflicts s) }
 {
+    let mut counts = Counts::new();
+    solve_counted(alloc, formula, conflicts, &mut counts)
+}
+
+/// Decides a formula as `solve` does, and adds to the counts what it did.
+pub fn solve_counted(
+    alloc: Global,
+    formula: &Cnf,
+    conflicts: u64,
+    counts: &mut Counts,
+) -> Result<Solved, Memory>
+    requires formula { IsFormula formula.now }
+    requires not_empty { NoneEmpty formula.now.clauses }
+    requires conflicts { 1 ≤ conflicts }
+    requires room { length formula.now.clauses + conflicts < 2 ^ 32 }
+    ensures { IfOk result (λ s. IsSolved formula.now conflicts s) }
+{
     let mut trail = Trail::new(alloc, formula)?;
     let mut order = Order::new(alloc, formula.variables)?;
     let mut log = Sequence::new(alloc);
     loop {
-        let turn = take_turn(alloc, formula, conflicts, &mut order, &mut trail, &mut log)?;
+        let turn = take_turn(
+            alloc, formula, conflicts, &mut order, &mut trail, &mut log, counts,
+        )?;
         match turn {
             Turn::Next => {}
             Turn::Found(values) => return Ok(Solved::Sat(values)),

@@ -1,7 +1,7 @@
 use Rattle.std.proofs.Common.{subst}
 use Rattle.lz_solve.specs.Turns.{IsTurn}
 use Rattle.lz_solve.proofs.SearchLemmas.{turn_smaller}
-use Rattle.lz_solve.proofs.search.solve.Goals as goal
+use Rattle.lz_solve.proofs.search.solve_counted.Goals as goal
 
 pub loop-log-smaller : goal.loop-log-smaller
 loop-log-smaller c =

@@ -1,6 +1,6 @@
 use Rattle.std.proofs.Common.{◌+◌, ◌-◌, ◌*◌, length}
 use Rattle.lz_solve.specs.Search.{IsSearch}
-use Rattle.lz_solve.proofs.search.solve.Given as goal
+use Rattle.lz_solve.proofs.search.solve_counted.Given as goal
 
 abbrev pub invariant-loop-log : goal.invariant-loop-log
 invariant-loop-log l = IsSearch l.formula l.conflicts l.trail l.log
