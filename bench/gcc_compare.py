@@ -20,6 +20,7 @@ import collections
 import os
 import random
 import re
+import signal
 import subprocess
 import sys
 import tempfile
@@ -650,6 +651,7 @@ def main():
     parser.add_argument("--changed", action="store_true")
     parser.add_argument("--keep")
     asked = parser.parse_args()
+    signal.signal(signal.SIGTERM, signal.default_int_handler)  # what was compared by then is told
     with tempfile.TemporaryDirectory() as directory:
         comparison, done = Comparison(asked, directory), 0
         try:
