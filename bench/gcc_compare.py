@@ -17,6 +17,7 @@ came, and with `--changed`, where the command is handed each program with one op
 
 import argparse
 import collections
+import ctypes
 import os
 import random
 import re
@@ -651,6 +652,7 @@ def main():
     parser.add_argument("--changed", action="store_true")
     parser.add_argument("--keep")
     asked = parser.parse_args()
+    ctypes.CDLL(None).personality(0x0040000)  # no addresses at random, with which some sanitizers never come to an end
     signal.signal(signal.SIGTERM, signal.default_int_handler)  # what was compared by then is told
     with tempfile.TemporaryDirectory() as directory:
         comparison, done = Comparison(asked, directory), 0

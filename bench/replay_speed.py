@@ -118,16 +118,27 @@ def far(size):
 
 
 def written_out(size):
-    """8,000 statements: as many turns as the size says of one hundredth of them, or (0) all written out."""
-    if size == 0:
-        return straight(8000)
-    return f"int x;\nint main(void) {{\nfor (int i = 0; i < {size}; i++) {{\n{'x = 1; ' * (8000 // size)}\n}}\n}}\n"
+    """So many statements in blocks of 80, which are 8,000 together with those that a loop of a hundred turns does before."""
+    turns = (8000 - size) // 100
+    return f"int x;\nint main(void) {{\nfor (int i = 0; i < 100; i++) {{\n{'x = 1; ' * turns}\n}}\n{'x = 1; ' * size}\n}}\n"
+
+
+def chain(size):
+    """`nested` with its statements in the last of a chain of so many calls."""
+    rows = [f"void f0(void) {{ {'x = 1; ' * 79}}}\n"] + [f"void f{i}(void) {{ f{i - 1}(); }}\n" for i in range(1, size)]
+    return f"int x;\n{''.join(rows)}int main(void) {{ for (int i = 0; i < 100; i++) f{size - 1}(); }}\n"
+
+
+def operands(size):
+    """Statements with so many operands each, 8,000 reads together."""
+    return "int x;\nint main(void) {\n" + f"{' + '.join(['x'] * size)};\n" * (4000 // size) + "}\n"
 
 
 # each with its sizes
 SAME = {
-    "uncalled": (uncalled, [0, 250, 2500, 25000]), "objects": (objects, [0, 600, 6000, 60000]), "high": (high, [0, 20, 180]),
-    "far": (far, [0, 2, 20]), "written out": (written_out, [100, 50, 10, 0]),
+    "uncalled": (uncalled, [0, 250, 2500, 25000]), "objects": (objects, [0, 600, 6000, 60000]), "high": (high, [0, 10, 30, 90, 180]),
+    "far": (far, [0, 2, 20]), "written out": (written_out, [0, 2000, 4000, 8000]), "chain": (chain, [1, 3, 10, 20]),
+    "operands": (operands, [1, 5, 20, 80]),
 }  # fmt: skip
 
 # ---------------------------------------------------------------------------------------------------------------- texts
@@ -221,10 +232,10 @@ class Bench:
             for size in [greatest // 8, greatest // 4, greatest // 2, greatest]:
                 last = self.show(name, size, last)
 
-    def sizes(self):
+    def sizes(self, only=None):
         print("shape          size    bytes  steps  best ms  work ms        without ms  us/step  peak KiB")
-        for name, (_, sizes) in SAME.items():
-            for size in sizes:
+        for name in only or SAME:
+            for size in SAME[name][1]:
                 self.show(name, size)
 
     def texts(self):
