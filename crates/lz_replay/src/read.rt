@@ -64,15 +64,18 @@ fn add_line(schedule: &mut Schedule, line: &[u8], number: u32) -> Result<(), Sch
     ensures ok { OnOk result (Adds line.now schedule.old schedule.new) }
     ensures err { IfErr result (λ e. IsLineRefusal line.now number e) }
 {
-    if is_passed_over(line) {
-        return Ok(());
-    }
     match step(line) {
         Some(step) => {
             schedule.push(step)?;
             Ok(())
         }
-        None => Err(ScheduleError::Bad { line: number }),
+        None => {
+            if is_passed_over(line) {
+                Ok(())
+            } else {
+                Err(ScheduleError::Bad { line: number })
+            }
+        }
     }
 }
 
