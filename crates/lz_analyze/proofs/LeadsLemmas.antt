@@ -11,10 +11,10 @@ use Rattle.lz_log.specs.Newness.{IsNewClause}
 use Rattle.lz_log.proofs.RefutationLemmas.{named_has}
 use Rattle.lz_analyze.specs.Walks.{LeadsFrom}
 
-in_first : (lit : Lit) (rest : List Lit) → Contains (lit ∷ rest) lit
+pub in_first : (lit : Lit) (rest : List Lit) → Contains (lit ∷ rest) lit
 in_first lit rest = (0, omega arith, refl)
 
-in_rest : (first lit : Lit) (rest : List Lit) → Contains rest lit → Contains (first ∷ rest) lit
+pub in_rest : (first lit : Lit) (rest : List Lit) → Contains rest lit → Contains (first ∷ rest) lit
 in_rest first lit rest (k, lt, e) = (suc k, omega (arith, lt), e)
 
 -- at the conflict

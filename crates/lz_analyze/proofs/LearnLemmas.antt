@@ -23,6 +23,7 @@ use Rattle.lz_analyze.proofs.LearntLemmas.{learnt_is_new, learnt_was_open, learn
 use Rattle.lz_analyze.proofs.LevelLemmas.{conflict_at_level}
 use Rattle.lz_analyze.proofs.WalkLemmas.{last_open_leads, none_counted, marked_is}
 use Rattle.lz_analyze.proofs.WalkingLemmas.{open_entry}
+use Rattle.lz_analyze.proofs.LeadsLemmas.{in_first, in_rest}
 
 -- ---- false literals
 
@@ -83,12 +84,6 @@ all_false s marked low at hints e point =
     All-cons (IsFalseLit (literals s.set)) (negated e.lit) low
     (subst (Contains (literals s.set)) (sym (negated-negated e.lit)) (Contains-map (λ (x : Entry). x.lit) s.set e (in_set s marked low at hints e point)))
     (λ k d lt. false_at_all s (λ level. level < s.level) (get_or low k d) (point.walk.lower k d lt))
-
-in_first : (lit : Lit) (rest : List Lit) → Contains (lit ∷ rest) lit
-in_first lit rest = (0, omega arith, refl)
-
-in_rest : (first lit : Lit) (rest : List Lit) → Contains rest lit → Contains (first ∷ rest) lit
-in_rest first lit rest (k, lt, at) = (suc k, omega (arith, lt), at)
 
 pub point_follows : (s : TrailState) (marked : List ℕ) (low : List Lit) (at : ℕ) (hints : List ℕ) (e : Entry) → IsTrail s → IsPoint s marked low at hints e → FollowsBy s.variables s.clauses (negated e.lit ∷ low) hints
 point_follows s marked low at hints e trail point =

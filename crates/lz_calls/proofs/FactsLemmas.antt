@@ -1,21 +1,21 @@
 -- The facts of a program from the ranks of its functions, their heights and what start routines reach.
-use Rattle.std.proofs.Common.{◌≡◌, ℕ, zero, suc, ◌+◌, ◌<◌, ◌≤◌, ◌⊎◌, ◌==◌, ◌&&◌, Bool, true, false, nat_lt, List, [], ◌∷◌, ◌++◌, map, length, get_or, slice_get, slice_index, slice_index_or, Option, Some, None, refl, sym, ap, ◌∙◌, subst, arith, inl, inr, eq-eqb, option_map, if◌then◌else◌, IsTrue, ◌↔◌, All, Vec, Global}
+use Rattle.std.proofs.Common.{◌≡◌, ℕ, zero, suc, ◌+◌, ◌<◌, ◌≤◌, ◌⊎◌, ◌==◌, ◌&&◌, Bool, true, false, nat_lt, List, [], ◌∷◌, ◌++◌, map, length, get_or, slice_get, slice_index, slice_index_or, Option, Some, None, refl, sym, ap, ◌∙◌, subst, arith, inl, inr, eq-eqb, option_map, if◌then◌else◌, IsTrue, ◌↔◌, Vec, Global}
 use Rattle.std.specs.List.{Contains, filter, list_any}
 use Rattle.std.proofs.lemmas.Bool.{cases_lt, cases_eq, cases_Bool, eqb-true, lt-ltb, le-ltb}
-use Rattle.std.proofs.lemmas.List.{length-map, map-append}
+use Rattle.std.proofs.lemmas.List.{length-map}
 use Rattle.std.proofs.lemmas.List.Folds.{list_any_at}
 use Rattle.std.proofs.lemmas.Map.Views.{any-filter_same}
-use Rattle.std.proofs.lemmas.Option.{slice_get_past, slice_get_within, slice_get-map, slice_get-get_or}
+use Rattle.std.proofs.lemmas.Option.{slice_get_within, slice_get-map, slice_get-get_or}
 use Rattle.lz_tree.specs.declared.scoped.ScopedFunction.{ScopedFunction}
 use Rattle.lz_tree.specs.ScopedTrees.{ScopedDefinition, scoped_definition}
 use Rattle.lz_tree.specs.Calls.{statement_calls, body_at, StandsBefore, IsCallOrder}
-use Rattle.lz_scopes.specs.Files.{Facts, or_false, row_has}
-use Rattle.lz_calls.specs.Calls.{graph_of, row, Calls, Reaches, IsStart, height_of, body_height_limit, counted_height, AreHeights, AreFacts}
-use Rattle.lz_calls.specs.Heights.{capped, counts_at, body_height, height_through, greatest, height_at_rank}
+use Rattle.lz_scopes.specs.Files.{or_false, row_has}
+use Rattle.lz_calls.specs.Calls.{graph_of, row, Calls, Reaches, IsStart, body_height_limit, AreHeights, AreFacts}
+use Rattle.lz_calls.specs.Heights.{capped, body_height, height_through, greatest, height_at_rank}
 use Rattle.lz_calls.specs.Ranks.{IsRanking, AreReturning, IsRankOrder, IsFalling}
-use Rattle.lz_calls.specs.Reaching.{Among, IsReachedFrom, Marked, IsReach}
+use Rattle.lz_calls.specs.Reaching.{Among, IsReach}
 use Rattle.lz_calls.specs.Facts.{AreStarts, IsRecursionFree, IsOrderOf}
-use Rattle.lz_calls.proofs.ReachingLemmas.{no_truth, calls_within, among_contains}
+use Rattle.lz_calls.proofs.ReachingLemmas.{no_truth, calls_within, among_contains, among_last, among_push}
 use Rattle.lz_calls.proofs.RanksLemmas.{same_rank, default}
 use Rattle.lz_calls.proofs.HeightsLemmas.{sees_all, statement_agrees, calls_of_body, height_fixed, lower}
 
@@ -91,15 +91,6 @@ returning_holds graph ranks rows r are f g c =
 pub starts_begin : (functions : List ScopedDefinition) → AreStarts functions 0 []
 starts_begin functions = record { sound = λ s a. absurd a; complete = λ s low is. absurd (omega arith) }
 
-among_front : (xs : List ℕ) (x y : ℕ) → Among xs y → Among (xs ++ x ∷ []) y
-among_front [] x y h = elim h [ ]
-among_front (z ∷ xs) x y (inl e) = inl e
-among_front (z ∷ xs) x y (inr h) = inr (among_front xs x y h)
-
-among_end : (xs : List ℕ) (x : ℕ) → Among (xs ++ x ∷ []) x
-among_end [] x = inl refl
-among_end (z ∷ xs) x = inr (among_end xs x)
-
 among_either : (xs : List ℕ) (x y : ℕ) → Among (xs ++ x ∷ []) y → Among xs y ⊎ (x ≡ y)
 among_either [] x y (inl e) = inr e
 among_either [] x y (inr h) = elim h [ ]
@@ -122,8 +113,8 @@ starts_turn functions count starts new d is so_far made =
           subst (AreStarts functions (count + 1)) (sym all) (record {
             sound = λ s a. elim (among_either starts count s a) [ inl old ↦ so_far.sound s old | inr e ↦ subst (IsStart functions) e (d, is, starts_it) ];
             complete = λ s low start. elim (cases_eq s count) [
-              | inl e ↦ subst (Among (starts ++ count ∷ [])) (sym e) (among_end starts count)
-              | inr other ↦ among_front starts count s (so_far.complete s (omega (arith, low, other)) start)
+              | inl e ↦ subst (Among (starts ++ count ∷ [])) (sym e) (among_last starts count)
+              | inr other ↦ among_push starts count s (so_far.complete s (omega (arith, low, other)) start)
             ];
           })
       | inr starts_not ↦
@@ -202,7 +193,7 @@ facts_made functions ranks heights starts rows marks high r are starting reach l
 
 -- ---- orders
 
-row_at : (functions : List ScopedDefinition) (f : ℕ) → f < length functions → row (slice_get (graph_of functions) f) ≡ statement_calls (body_at functions f)
+pub row_at : (functions : List ScopedDefinition) (f : ℕ) → f < length functions → row (slice_get (graph_of functions) f) ≡ statement_calls (body_at functions f)
 row_at [] f low = absurd (omega arith)
 row_at (d ∷ rest) zero low = refl
 row_at (d ∷ rest) (suc f) low = row_at rest f (omega arith)

@@ -35,12 +35,12 @@ among_at (x ∷ xs) (suc k) y low is = inr (among_at xs k y (omega arith) is)
 pub contains_among : (xs : List ℕ) (y : ℕ) → Contains xs y → Among xs y
 contains_among xs y c = among_at xs c.0 y c.1 c.2
 
-among_push : (xs : List ℕ) (x y : ℕ) → Among xs y → Among (xs ++ x ∷ []) y
+pub among_push : (xs : List ℕ) (x y : ℕ) → Among xs y → Among (xs ++ x ∷ []) y
 among_push [] x y h = elim h [ ]
 among_push (z ∷ xs) x y (inl e) = inl e
 among_push (z ∷ xs) x y (inr h) = inr (among_push xs x y h)
 
-among_last : (xs : List ℕ) (x : ℕ) → Among (xs ++ x ∷ []) x
+pub among_last : (xs : List ℕ) (x : ℕ) → Among (xs ++ x ∷ []) x
 among_last [] x = inl refl
 among_last (z ∷ xs) x = inr (among_last xs x)
 

@@ -2,25 +2,13 @@
 use Rattle.std.proofs.Common.{◌≡◌, ℕ, ◌^◌, ◌<◌, true, false, ltb, List, [], ◌∷◌, ◌&&◌, length, Some, Result, Ok, Err, refl, ap, arith}
 use Rattle.std.specs.List.{list_all}
 use Rattle.std.specs.Char.{is_ascii_digit}
-use Rattle.std.specs.Int.{IsInRange}
 use Rattle.std.specs.Result.{result_ok, OkIff}
 use Rattle.std.specs.Str.Parse.{AllDigits, digits_value, ParsesUnsigned}
 use Rattle.std.proofs.lemmas.Bool.{and_parts}
 use Rattle.std.proofs.lemmas.Bool.Decides.{nat_tests}
-use Rattle.std.proofs.lemmas.Str.Parse.{IsNumeralModel, numerals_by_value, tells_digits, parse_digits}
+use Rattle.std.proofs.lemmas.Str.Parse.{parse_digits}
 use Rattle.lz_cli.specs.CommandLine.{is_number, number_of}
-
-own : IsNumeralModel (AllDigits 10) (digits_value 10)
-own = numerals_by_value (AllDigits 10) tells_digits
-
-digit_in : (c : ℕ) → is_ascii_digit c ≡ true → IsInRange 48 57 c
-digit_in c h = grind (arith, nat_tests)
-
-all_digits : (ds : List ℕ) → list_all is_ascii_digit ds ≡ true → AllDigits 10 ds
-all_digits [] h = tells_digits.empty
-all_digits (d ∷ ds) h =
-    let p = and_parts (is_ascii_digit d) (list_all is_ascii_digit ds) h in
-    tells_digits.more d ds (digit_in d p.0) (all_digits ds p.1)
+use Rattle.lz_base.proofs.NumeralLemmas.{all_digits, decimal_numerals}
 
 is_some : (n : ℕ) → ltb 0 n ≡ true → 0 < n
 is_some n h = grind (arith, nat_tests)
@@ -32,7 +20,7 @@ number_parts bs h =
     (all_digits bs q.1, is_some (length bs) p.0)
 
 pub parsed_number : {E : Type 0} (bs : List ℕ) (r : Result ℕ E) → is_number bs ≡ true → ParsesUnsigned 64 10 bs r → result_ok r ≡ number_of bs
-parsed_number bs r h parsed = by r (parse_digits own 64 bs r parsed (number_parts bs h).0)
+parsed_number bs r h parsed = by r (parse_digits decimal_numerals 64 bs r parsed (number_parts bs h).0)
   where
     below : (v : ℕ) → v < 2 ^ 64 → ltb v (2 ^ 64) ≡ true
     below v k = grind (arith, nat_tests)

@@ -1,6 +1,7 @@
 -- Literals and their signs.
-use Rattle.std.proofs.Common.{◌≡◌, ℕ, ◌+◌, ◌-◌, ◌/◌, ◌%◌, ◌⊎◌, inl, inr, ⊎_elim, Bool, true, false, not, cond, eqb, refl, ap, arith}
-use Rattle.std.proofs.lemmas.Bool.{eqb-true, eqb-false, cases_lt}
+use Rattle.std.proofs.Common.{◌≡◌, ℕ, zero, suc, ◌+◌, ◌-◌, ◌/◌, ◌%◌, ◌⊎◌, inl, inr, ⊎_elim, Bool, true, false, not, cond, eqb, List, [], ◌∷◌, refl, ap, arith}
+use Rattle.std.specs.List.{Contains}
+use Rattle.std.proofs.lemmas.Bool.{eqb-true, eqb-false, cases_lt, cases_eq}
 use Rattle.lz_cnf.specs.declared.clause.Lit.{Lit}
 use Rattle.lz_cnf.specs.Models.{variable_of, is_negated, negated}
 
@@ -72,3 +73,20 @@ same_variable a b h =
     (λ e. inl (ap (λ (n : ℕ). let l : Lit = record { 0 = n } in l) e))
     (λ e. inr (ap (λ (n : ℕ). let l : Lit = record { 0 = n } in l) e))
     (number_cases a.0 b.0 (is_negated b) refl h)
+
+-- a literal in a list that is not its first is in the rest
+in_rest : (first lit : Lit) (rest : List Lit) → Contains (first ∷ rest) lit → (first.0 ≡ lit.0 → ⊥) → Contains rest lit
+in_rest first lit rest (zero, lt, at) ne = absurd (ne (ap (λ (l : Lit). l.0) at))
+in_rest first lit rest (suc k, lt, at) ne = (k, omega (arith, lt), at)
+
+-- a list contains a literal or not
+pub contains_or : (lits : List Lit) (lit : Lit) → Contains lits lit ⊎ (Contains lits lit → ⊥)
+contains_or [] lit = inr (λ h. omega (arith, h.1))
+contains_or (first ∷ rest) lit =
+    elim (cases_eq first.0 lit.0) [
+      | inl same ↦ inl (0, omega arith, same_lit first lit same)
+      | inr ne ↦ elim (contains_or rest lit) [
+        | inl (k, lt, at) ↦ inl (suc k, omega (arith, lt), at)
+        | inr none ↦ inr (λ h. none (in_rest first lit rest h ne))
+      ]
+    ]

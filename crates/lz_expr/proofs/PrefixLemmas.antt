@@ -115,7 +115,7 @@ row_cast_type = row_choice (is_key keys.Void) pointer_text integer_text void_poi
     integer_heads
 
 -- a type does not go on with `)`
-no_paren : (t : TypeName) → grow_by t (kinds.Punct marks.CloseParen) ≡ None
+pub no_paren : (t : TypeName) → grow_by t (kinds.Punct marks.CloseParen) ≡ None
 no_paren types.Void = refl
 no_paren _ = refl
 

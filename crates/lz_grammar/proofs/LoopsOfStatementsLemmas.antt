@@ -22,6 +22,7 @@ use Rattle.lz_grammar.specs.Grammar.{evaluated, otherwise, tested, repeated, rep
 use Rattle.lz_grammar.proofs.ValuesLemmas.{row_expr}
 use Rattle.lz_grammar.proofs.FormsLemmas.{statement_goes, form, while_no_else}
 use Rattle.lz_grammar.proofs.StatementsLemmas.{Of}
+use Rattle.lz_base.proofs.BoolLemmas.{first_fails}
 
 semicolon_colon : (c : Token) (x : ℕ) → mark_shown marks.Semicolon c ≡ Some x → is_mark marks.Colon c ≡ false
 unfolding is_mark same_mark
@@ -32,10 +33,6 @@ either true true = refl
 either true false = refl
 either false true = refl
 either false false = refl
-
-not_both : (a b : Bool) → not a ≡ true → (a && b) ≡ false
-not_both true b h = absurd cc
-not_both false b h = refl
 
 other : (a b : Bool) → not a ≡ false → (a && b) ≡ false → b ≡ false
 other true b h k = k
@@ -232,7 +229,7 @@ module _ (h : ℕ) (inner : Reader Token Statement) (some : 0 < h) (rs : Row (In
         (λ met t c v q m. let s = heads_token (key_shown keys.Else) (λ m. made (λ s. when line test met (branch s)) (InStatement h)) t c v m in key_is keys.Else c s.0 s.1)
         (λ met t q m. (else_row met).full t m)
         (λ met c q p. begins_token (key_shown keys.Else) (λ m. made (λ s. when line test met (branch s)) (InStatement h)) c c.line (key_shows keys.Else c p) (else_behind met).some)
-        (λ met u c m q e. not_both (is_open met) (is_key keys.Else c) q)
+        (λ met u c m q e. first_fails (is_open met) (is_key keys.Else c) q)
         (λ met u c m. either (is_open met) (is_key keys.Else c))
         (λ met t v c q m. refl)
 

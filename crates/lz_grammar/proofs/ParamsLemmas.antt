@@ -24,6 +24,7 @@ use Rattle.lz_expr.proofs.TypesLemmas.{type_goes}
 use Rattle.lz_grammar.specs.Grammar.{type_key, begins_type, lined_type, is_name, begins_name, nameless, named_param, param, next_param, more_params, some_params, all_params, is_void, void_word, params}
 use Rattle.lz_grammar.proofs.AnyTypesLemmas.{TypeText, row_lined_type, type_leads, type_heads, type_some}
 use Rattle.lz_grammar.proofs.DeclarationsLemmas.{type_name_apart}
+use Rattle.lz_expr.proofs.PrefixLemmas.{no_paren}
 
 kind_name : (k : TokenKind) → is_name (opening_of k) ≡ true → (n : ℕ) × (name_in k ≡ Some n)
 kind_name (kinds.Name n) h = (n, refl)
@@ -46,17 +47,13 @@ comma_still : (t : TypeName) → grow_by t (kinds.Punct marks.Comma) ≡ None
 comma_still types.Void = refl
 comma_still _ = refl
 
-close_still : (t : TypeName) → grow_by t (kinds.Punct marks.CloseParen) ≡ None
-close_still types.Void = refl
-close_still _ = refl
-
 comma_stops_type : (t : TypeName) (c : Token) (x : ℕ) → mark_shown marks.Comma c ≡ Some x → (type_goes t c ≡ false) × (begins_name c ≡ false) × (is_mark marks.CloseParen c ≡ false)
 unfolding grow begins_name is_mark same_mark
 comma_stops_type t c x h = let k = mark_kind_is marks.Comma c x h in (ap (λ (y : TokenKind). shows (grow_by t y)) k ∙ ap shows (comma_still t), ap (λ (y : TokenKind). is_name (opening_of y)) k, rw k refl)
 
 close_stops_type : (t : TypeName) (c : Token) (x : ℕ) → mark_shown marks.CloseParen c ≡ Some x → (type_goes t c ≡ false) × (begins_name c ≡ false)
 unfolding grow begins_name
-close_stops_type t c x h = let k = mark_kind_is marks.CloseParen c x h in (ap (λ (y : TokenKind). shows (grow_by t y)) k ∙ ap shows (close_still t), ap (λ (y : TokenKind). is_name (opening_of y)) k)
+close_stops_type t c x h = let k = mark_kind_is marks.CloseParen c x h in (ap (λ (y : TokenKind). shows (grow_by t y)) k ∙ ap shows (no_paren t), ap (λ (y : TokenKind). is_name (opening_of y)) k)
 
 close_no_type : (c : Token) (x : ℕ) → mark_shown marks.CloseParen c ≡ Some x → begins_type c ≡ false
 unfolding begins_type key_meant

@@ -1,7 +1,7 @@
 -- Letters and digits are ASCII, digits have the value that std reads, and tables are searched row by row.
 use Rattle.std.proofs.Common.{◌≡◌, ℕ, zero, suc, ◌^◌, ◌<◌, Bool, true, false, cond, eqb, List, [], ◌∷◌, length, take, drop, map, Option, Some, None, Result, Ok, Err, refl, sym, ap, subst, ◌∙◌, arith, inl, inr}
 use Rattle.std.specs.Prelude.{find, option_map, nat_lt}
-use Rattle.std.specs.Result.{result_ok, OkIff, MatchResult, IsOk}
+use Rattle.std.specs.Result.{result_ok, OkIff}
 use Rattle.std.specs.Char.{digit_value}
 use Rattle.std.specs.List.{list_all, prefix_len}
 use Rattle.std.specs.Str.{IsAscii}
@@ -13,11 +13,6 @@ use Rattle.lz_lex.specs.declared.constant.Base.{Base}
 use Rattle.lz_lex.specs.declared.constant.Base.TheVariants as base
 use Rattle.lz_lex.specs.Scanning.{is_digit, radix, is_decimal, digits_value_below, constant_below}
 use Rattle.lz_lex.proofs.PrefixLemmas.{prefix_all, prefix-pass}
-
--- an answer that no fault fits is a success
-pub ok_from : {A E : Type 0} (r : Result A E) (P : A → Type 0) (Q : E → Type 0) → MatchResult r P Q → ((e : E) → Q e → ⊥) → IsOk r
-ok_from (Ok x) P Q m h = refl
-ok_from (Err e) P Q m h = absurd (h e m)
 
 byte_ascii : (b : ℕ) → is_word_byte b ≡ true → b < 128
 byte_ascii b h = grind (arith, nat_tests)

@@ -1,7 +1,6 @@
 -- A new clause contains no clause before it, and unit propagation could not have set its literal.
-use Rattle.std.proofs.Common.{◌≡◌, zero, suc, ◌<◌, ◌⊎◌, inl, inr, ⊎_elim, List, [], ◌∷◌, get_or, sym, ap, subst, arith}
+use Rattle.std.proofs.Common.{◌≡◌, ◌<◌, ◌⊎◌, inl, inr, ⊎_elim, List, [], ◌∷◌, get_or, sym, subst, arith}
 use Rattle.std.specs.List.{All, Contains}
-use Rattle.std.proofs.lemmas.Bool.{cases_order}
 use Rattle.std.proofs.lemmas.List.Elements.{All-contains, Contains-get_or, All-cons}
 use Rattle.lz_cnf.specs.declared.clause.Lit.{Lit}
 use Rattle.lz_cnf.specs.declared.clause.Cnf.{Cnf}
@@ -10,7 +9,7 @@ use Rattle.lz_cnf.specs.Partial.{IsFalseLit, IsOpen}
 use Rattle.lz_log.specs.declared.log.LogStep.{LogStep}
 use Rattle.lz_log.specs.Refutation.{known_clauses}
 use Rattle.lz_log.specs.Newness.{IsNewClause, IsNewStep, IsPropagation, AreOthers}
-use Rattle.lz_cnf.proofs.LitLemmas.{same_lit}
+use Rattle.lz_cnf.proofs.LitLemmas.{contains_or}
 
 -- a new step contains no clause before it
 pub contains_none : (formula : Cnf) (earlier : List LogStep) (step : LogStep) (clause : List Lit) → IsNewStep formula earlier step → Contains (known_clauses formula earlier) clause → All (Contains step.clause) clause → ⊥
@@ -23,22 +22,6 @@ contains_none formula earlier step clause new known within =
     (λ same. absurd (without (subst (Contains clause) same (Contains-get_or clause k d lt))))
     (λ is_false. is_false)
     (each k d lt))
-
--- a literal stands in a list, or not
-contains_or_not : (lits : List Lit) (lit : Lit) → Contains lits lit ⊎ (Contains lits lit → ⊥)
-contains_or_not [] lit = inr (λ h. absurd (omega (arith, h.1)))
-contains_or_not (first ∷ lits) lit =
-    elim (cases_order first.0 lit.0) [
-      | inl same ↦ inl (0, omega arith, same_lit first lit same)
-      | inr order ↦ elim (contains_or_not lits lit) [
-        | inl (k, lt, e) ↦ inl (suc k, omega (arith, lt), e)
-        | inr without ↦ inr (apart first lits lit (⊎_elim (λ (below : first.0 < lit.0). λ (e : first.0 ≡ lit.0). omega arith) (λ (above : lit.0 < first.0). λ (e : first.0 ≡ lit.0). omega arith) order) without)
-      ]
-    ]
-  where
-    apart : (first : Lit) (lits : List Lit) (lit : Lit) → (first.0 ≡ lit.0 → ⊥) → (Contains lits lit → ⊥) → Contains (first ∷ lits) lit → ⊥
-    apart first lits lit differ without (zero, lt, e) = differ (ap (λ (l : Lit). l.0) e)
-    apart first lits lit differ without (suc k, lt, e) = without (k, omega (arith, lt), e)
 
 -- where no clause is unit or false and these literals are false, what unit propagation sets is true already
 propagation_is_true : (true_ : List Lit) (known : List (List Lit)) (false_ order : List Lit) → All (IsOpen true_) known → All (IsFalseLit true_) false_ → IsPropagation known false_ order → All (Contains true_) order
@@ -53,7 +36,7 @@ propagation_is_true true_ known false_ (lit ∷ earlier) quiet are set =
     (λ given. All-contains (IsFalseLit true_) false_ (get_or clause k d) are given)
     (λ was_set. All-contains (Contains true_) earlier (negated (get_or clause k d)) before was_set) rest))
     (set.4 k d lt) in
-    let here : Contains true_ lit = elim (contains_or_not true_ lit) [
+    let here : Contains true_ lit = elim (contains_or true_ lit) [
       | inl within ↦ within
       | inr without ↦ absurd (open_.not_unit (
         lit,

@@ -4,16 +4,14 @@ use Rattle.std.proofs.lemmas.Bool.{cases_lt}
 use Rattle.std.proofs.lemmas.List.{length-take}
 use Rattle.std.proofs.lemmas.Fmt.{decimal_is_IsNumeral, decimal-digits_value, first_decimal, decimal_digit}
 use Rattle.std.proofs.lemmas.Str.{digit_value_digit}
-use Rattle.std.proofs.lemmas.Str.Parse.{IsNumeralModel, numerals_by_value, tells_digits, digit_from_value}
+use Rattle.std.proofs.lemmas.Str.Parse.{digit_from_value}
 use Rattle.std.specs.Char.{digit_value, is_digit}
 use Rattle.std.specs.Fmt.{decimal}
 use Rattle.std.specs.List.{prefix_len}
 use Rattle.std.specs.Str.Parse.{AllDigits, digits_value}
 use Rattle.lz_log.specs.ProofReading.{IsNumber}
 use Rattle.lz_log.specs.Pieces.{number_cap, IsCapped, NoDigit, HasNumber, TellsNumber, HasBounded}
-
-own : IsNumeralModel (AllDigits 10) (digits_value 10)
-own = numerals_by_value (AllDigits 10) tells_digits
+use Rattle.lz_base.proofs.NumeralLemmas.{decimal_numerals}
 
 -- a digit's byte
 pub digit_byte : (c : ℕ) → digit_value c < 10 → (48 ≤ c) × (digit_value c + 48 ≡ c)
@@ -122,7 +120,7 @@ decimal_number n small =
 pub number_decimal : (ds : List ℕ) (n : ℕ) → n < number_cap → IsNumber ds n → ds ≡ decimal n
 number_decimal ds n small h =
     let wide : digits_value 10 ds < 2 ^ 64 = omega (arith, h.value) in
-    sym (decimal-digits_value own ds h.numeral.1 h.numeral.0 h.first wide) ∙ ap decimal h.value
+    sym (decimal-digits_value decimal_numerals ds h.numeral.1 h.numeral.0 h.first wide) ∙ ap decimal h.value
 
 -- a number with a byte behind it that is no digit, as a number at the front
 pub bounded_number : (bytes : List ℕ) (end_ low high n : ℕ) (rest : List ℕ) → high < number_cap → 10 ≤ digit_value end_ → HasBounded bytes end_ low high n rest → HasNumber bytes (decimal n) n (end_ ∷ rest)

@@ -1,7 +1,6 @@
 -- The next action of a thread: what it may do is nothing, or that action and what comes behind it.
 use Rattle.std.proofs.Common.{◌≡◌, ℕ, suc, ◌⊎◌, inl, inr, Bool, true, false, List, [], ◌∷◌, ◌++◌, Option, Some, None, refl, sym, ◌∙◌, ap, subst}
-use Rattle.lz_model.specs.declared.actions.Action.{Action}
-use Rattle.lz_model.specs.declared.actions.Action.TheVariants.{Loc, Input, Check, Assume, Rd, Wr, Reset, Lock, Unlock, Park, Wake, Signal, Broadcast, Create, Join, HoldOn, HoldOff, End}
+use Rattle.lz_model.specs.declared.actions.Action.TheVariants.{Loc}
 use Rattle.lz_model.specs.Actions.{Act, is_loc, Start, started_by}
 use Rattle.lz_model.specs.Behaviours.{Outcome, done, exits, cut, Behaviour, ends_with, halts, leaves, updates, stays, chooses, GoesOn, ◌and_then◌}
 use Rattle.lz_model.specs.CodeTraces.{Locals}
@@ -10,51 +9,29 @@ use Rattle.lz_model.specs.WithoutLoc.{left_out, without_loc}
 use Rattle.lz_model.proofs.OneRunLemmas.{without_loc-append}
 use Rattle.lz_turns.specs.Seen.{Follows}
 use Rattle.lz_machine.specs.Threads.{Acts}
+use Rattle.lz_model.proofs.LocLemmas.{loc_starts_none}
+use Rattle.lz_model.proofs.ThreadFrontsLemmas.{numbered_front}
 
 -- ---- numbers of threads that are created, Loc left out
 
-quiet : (a : Action) → is_loc a ≡ true → started_by a ≡ None
-quiet Loc e = refl
-quiet (Input value) e = absurd cc
-quiet (Check value kind) e = absurd cc
-quiet (Assume value) e = absurd cc
-quiet (Rd cell value) e = absurd cc
-quiet (Wr cell value) e = absurd cc
-quiet (Reset mutex) e = absurd cc
-quiet (Lock mutex) e = absurd cc
-quiet (Unlock mutex) e = absurd cc
-quiet (Park cond mutex) e = absurd cc
-quiet (Wake cond mutex) e = absurd cc
-quiet (Signal cond woken) e = absurd cc
-quiet (Broadcast cond) e = absurd cc
-quiet (Create thread routine value) e = absurd cc
-quiet (Join thread) e = absurd cc
-quiet HoldOn e = absurd cc
-quiet HoldOff e = absurd cc
-quiet (End whole) e = absurd cc
-
-pub numbered_map : (o : Option Start) (next : ℕ) (P Q : ℕ → Type 0) → ((k : ℕ) → P k → Q k) → numbered_after o next P → numbered_after o next Q
-numbered_map None next P Q f h = f next h
-numbered_map (Some s) next P Q f h = (h.0, f (suc next) h.1)
-
 -- of one action, which is Loc or is not
 numbers_seen : (a : Act) (rest : List Act) (next : ℕ) (b : Bool) → is_loc a.action ≡ b → numbered_after (started_by a.action) next (CreatesFrom rest) → CreatesFrom (left_out b a rest) next
-numbers_seen a rest next true e h = subst (λ (o : Option Start). numbered_after o next (CreatesFrom rest)) (quiet a.action e) h
+numbers_seen a rest next true e h = subst (λ (o : Option Start). numbered_after o next (CreatesFrom rest)) (loc_starts_none a.action e) h
 numbers_seen a rest next false e h = h
 
 seen_numbers : (a : Act) (rest : List Act) (next : ℕ) (b : Bool) → is_loc a.action ≡ b → CreatesFrom (left_out b a rest) next → numbered_after (started_by a.action) next (CreatesFrom rest)
-seen_numbers a rest next true e h = subst (λ (o : Option Start). numbered_after o next (CreatesFrom rest)) (sym (quiet a.action e)) h
+seen_numbers a rest next true e h = subst (λ (o : Option Start). numbered_after o next (CreatesFrom rest)) (sym (loc_starts_none a.action e)) h
 seen_numbers a rest next false e h = h
 
 numbers_there : (acts : List Act) (next : ℕ) → CreatesFrom acts next → CreatesFrom (without_loc acts) next
 numbers_there [] next h = tt
 numbers_there (a ∷ rest) next h =
-    numbers_seen a (without_loc rest) next (is_loc a.action) refl (numbered_map (started_by a.action) next (CreatesFrom rest) (CreatesFrom (without_loc rest)) (numbers_there rest) h)
+    numbers_seen a (without_loc rest) next (is_loc a.action) refl (numbered_front (started_by a.action) next (CreatesFrom rest) (CreatesFrom (without_loc rest)) (numbers_there rest) h)
 
 numbers_back : (acts : List Act) (next : ℕ) → CreatesFrom (without_loc acts) next → CreatesFrom acts next
 numbers_back [] next h = tt
 numbers_back (a ∷ rest) next h =
-    numbered_map (started_by a.action) next (CreatesFrom (without_loc rest)) (CreatesFrom rest) (numbers_back rest) (seen_numbers a (without_loc rest) next (is_loc a.action) refl h)
+    numbered_front (started_by a.action) next (CreatesFrom (without_loc rest)) (CreatesFrom rest) (numbers_back rest) (seen_numbers a (without_loc rest) next (is_loc a.action) refl h)
 
 -- ---- code that does the same
 
@@ -129,7 +106,7 @@ module _ (act : Act) (value : ℕ) (next : ℕ → Behaviour Locals ℕ) (s : Lo
         let head : first ≡ act = cc in
         let tail : list ≡ without_loc y.0 = cc in
         let numbers : CreatesFrom (act ∷ y.0) made = subst (λ (x : List Act). CreatesFrom x made) y.1 a.numbered in
-        (head, numbered_map (started_by act.action) made (CreatesFrom y.0) (λ (k : ℕ). (list ≡ []) ⊎ Acts (next value) s whole k list) (λ k c. behind list y.0 k tail y.2 c) numbers)
+        (head, numbered_front (started_by act.action) made (CreatesFrom y.0) (λ (k : ℕ). (list ≡ []) ⊎ Acts (next value) s whole k list) (λ k c. behind list y.0 k tail y.2 c) numbers)
   ]
     where
       behind : (list rest : List Act) (k : ℕ) → list ≡ without_loc rest → (rest ≡ []) ⊎ EndsThread (next value) s whole rest → CreatesFrom rest k → (list ≡ []) ⊎ Acts (next value) s whole k list

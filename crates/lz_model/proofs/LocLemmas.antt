@@ -57,7 +57,7 @@ loc_goes s t a d e can = subst (λ (x : Action). act s t x ≡ went s) (sym (loc
     by true can = absurd (can refl)
     by false can = refl
 
-loc_starts_none : (a : Action) → is_loc a ≡ true → started_by a ≡ None
+pub loc_starts_none : (a : Action) → is_loc a ≡ true → started_by a ≡ None
 loc_starts_none a e = ap started_by (loc_is a e)
 
 -- ---- Loc left out of a run

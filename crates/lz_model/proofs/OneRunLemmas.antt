@@ -151,7 +151,7 @@ next_alike p a b r s (parted d) = parts_there p d.front a b d.one d.other r s d.
 
 -- ---- a state and a choice settle each answer
 
-found_is : (c b : Bool) (s : State) → cond c blocked (goes_where b s) ≢ blocked → b ≡ true
+pub found_is : (c b : Bool) (s : State) → cond c blocked (goes_where b s) ≢ blocked → b ≡ true
 found_is true b s h = absurd (h refl)
 found_is false true s h = refl
 found_is false false s h = absurd (h refl)

@@ -31,7 +31,7 @@ module _ {S A : Type 0} where
         | inr z ↦ at_end w (exits w) f front acts more z.0 h (λ xs k. is_left front w h k) z.1 z.2
       ]
 
-numbered_front : (o : Option Start) (next : ℕ) (P Q : ℕ → Type 0) → ((k : ℕ) → P k → Q k) → numbered_after o next P → numbered_after o next Q
+pub numbered_front : (o : Option Start) (next : ℕ) (P Q : ℕ → Type 0) → ((k : ℕ) → P k → Q k) → numbered_after o next P → numbered_after o next Q
 numbered_front None next P Q f h = f next h
 numbered_front (Some start) next P Q f h = (h.0, f (suc next) h.1)
 

@@ -7,10 +7,10 @@ use Rattle.std.proofs.lemmas.List.Elements.{Contains-append_left, Contains-push_
 use Rattle.lz_cnf.specs.declared.clause.Lit.{Lit}
 use Rattle.lz_cnf.specs.Models.{negated}
 use Rattle.lz_cnf.specs.Partial.{IsFalseLit, IsConsistent, IsOpen, IsQuiet}
-use Rattle.lz_cnf.proofs.LitLemmas.{variable_of-negated, negated-negated, ne_negated, same_lit}
+use Rattle.lz_cnf.proofs.LitLemmas.{variable_of-negated, negated-negated, ne_negated, same_lit, contains_or}
 use Rattle.lz_prop.specs.Watch.{twin}
 use Rattle.lz_prop.specs.Guarded.{IsSatisfied, Guards, IsGuarded, AreGuarded, WereGuarded, AreFronts}
-use Rattle.lz_prop.proofs.OpenLemmas.{contains_or, satisfied_is_open, two_are_open}
+use Rattle.lz_prop.proofs.OpenLemmas.{satisfied_is_open, two_are_open}
 use Rattle.lz_prop.proofs.ScanLemmas.{front_in}
 
 -- ---- what guards give

@@ -1,28 +1,10 @@
 -- Which clauses are open.
-use Rattle.std.proofs.Common.{◌≡◌, zero, suc, ◌⊎◌, inl, inr, ⊎_elim, List, [], ◌∷◌, sym, ◌∙◌, ap, subst, arith}
+use Rattle.std.proofs.Common.{◌≡◌, ◌⊎◌, ⊎_elim, List, [], ◌∷◌, sym, ◌∙◌, subst}
 use Rattle.std.specs.List.{Contains}
-use Rattle.std.proofs.lemmas.Bool.{cases_eq}
 use Rattle.std.proofs.lemmas.List.Elements.{All-contains}
 use Rattle.lz_cnf.specs.declared.clause.Lit.{Lit}
 use Rattle.lz_cnf.specs.Models.{negated}
 use Rattle.lz_cnf.specs.Partial.{IsFalseLit, IsConsistent, IsOpen}
-use Rattle.lz_cnf.proofs.LitLemmas.{same_lit}
-
-in_rest : (first lit : Lit) (rest : List Lit) → Contains (first ∷ rest) lit → (first.0 ≡ lit.0 → ⊥) → Contains rest lit
-in_rest first lit rest (zero, lt, at) ne = absurd (ne (ap (λ (l : Lit). l.0) at))
-in_rest first lit rest (suc k, lt, at) ne = (k, omega (arith, lt), at)
-
--- a list contains a literal or not
-pub contains_or : (lits : List Lit) (lit : Lit) → Contains lits lit ⊎ (Contains lits lit → ⊥)
-contains_or [] lit = inr (λ h. omega (arith, h.1))
-contains_or (first ∷ rest) lit =
-    elim (cases_eq first.0 lit.0) [
-      | inl same ↦ inl (0, omega arith, same_lit first lit same)
-      | inr ne ↦ elim (contains_or rest lit) [
-        | inl (k, lt, at) ↦ inl (suc k, omega (arith, lt), at)
-        | inr none ↦ inr (λ h. none (in_rest first lit rest h ne))
-      ]
-    ]
 
 -- ---- open clauses
 

@@ -8,9 +8,9 @@ use Rattle.lz_model.specs.declared.actions.Action.{Action}
 use Rattle.lz_model.specs.declared.actions.Action.TheVariants.{Loc, Input, Check, Assume, Rd, Wr, Reset, Lock, Unlock, Park, Wake, Signal, Broadcast, Create, Join, HoldOn, HoldOff, End}
 use Rattle.lz_model.specs.declared.schedule.Step.{Step}
 use Rattle.lz_model.specs.Actions.{Act, choice_of}
-use Rattle.lz_model.specs.Store.{State, blocked, is_made, waits_on, thread_at, awake, with_thread, is_halted, held_by_another, goes_where, act}
+use Rattle.lz_model.specs.Store.{State, blocked, is_made, waits_on, thread_at, awake, with_thread, is_halted, held_by_another, act}
 use Rattle.lz_model.specs.CodeTraces.{at}
-use Rattle.lz_model.proofs.OneRunLemmas.{read_finds, woken_is}
+use Rattle.lz_model.proofs.OneRunLemmas.{read_finds, woken_is, found_is}
 use Rattle.lz_machine.specs.Threads.{Standing, going, failed, stopped, ended, Thread, MayGo, MayDo}
 use Rattle.lz_machine.specs.Answers.{reads, acts, has_ended, is_cut, read_back, woken_by, HasChosen, StandsFor, HasChoice, Answers}
 use Rattle.lz_replay.specs.Stands.{Same, IsNext}
@@ -77,11 +77,6 @@ stands_chosen (Join d) o choice stands one other = stands
 stands_chosen HoldOn o choice stands one other = stands
 stands_chosen HoldOff o choice stands one other = stands
 stands_chosen (End w) o choice stands one other = stands
-
-found_is : (c b : Bool) (s : State) → cond c blocked (goes_where b s) ≢ blocked → b ≡ true
-found_is true b s h = absurd (h refl)
-found_is false true s h = refl
-found_is false false s h = absurd (h refl)
 
 -- a thread that a signal can wake is made
 signal_made : (s : State) (t cond_ u : ℕ) → act s t (Signal cond_ (Some u)) ≢ blocked → u < length s.threads

@@ -4,20 +4,18 @@ use Rattle.std.specs.Prelude.{codes}
 use Rattle.std.specs.List.{list_all, AllByRecursion}
 use Rattle.std.specs.Fmt.{decimal}
 use Rattle.std.specs.Int.{IsInRange}
-use Rattle.std.specs.Str.Parse.{AllDigits, digits_value}
+use Rattle.std.specs.Str.Parse.{AllDigits}
 use Rattle.std.proofs.lemmas.Bool.{and_parts}
 use Rattle.std.proofs.lemmas.Bool.Decides.{nat_tests}
-use Rattle.std.proofs.lemmas.Str.Parse.{IsNumeralModel, numerals_by_value, tells_digits}
+use Rattle.std.proofs.lemmas.Str.Parse.{tells_digits}
 use Rattle.std.proofs.lemmas.Fmt.{digits_decimal}
 use Rattle.lz_model.specs.declared.schedule.Step.{Step}
 use Rattle.lz_model.specs.ScheduleText.{before_first, lines_of, step_text, IsStep, IsStepLine, IsPassedOver, empty, failed, check, rounds, Reads, passes_over, tells, ReadLines, printed}
 use Rattle.lz_replay.specs.Lines.{is_other}
 use Rattle.lz_replay.proofs.LinesLemmas.{step_read}
+use Rattle.lz_base.proofs.NumeralLemmas.{decimal_numerals}
 
 -- ---- a printed schedule is read
-
-own : IsNumeralModel (AllDigits 10) (digits_value 10)
-own = numerals_by_value (AllDigits 10) tells_digits
 
 -- bytes without a newline, and what stands behind them and a newline
 line_first : (xs rest : List ℕ) → list_all (is_other 10) xs ≡ true → lines_of (xs ++ 10 ∷ rest) ≡ xs ∷ lines_of rest
@@ -49,8 +47,8 @@ no_newline (d ∷ ds) h =
 step_is_a_line : (s : Step) → IsStep s → list_all (is_other 10) (step_text s) ≡ true
 step_is_a_line s within =
     let small : s.thread < 2 ^ 64 = let w = within.thread in omega arith in
-    let thread = no_newline (decimal s.thread) (digits_decimal own s.thread small) in
-    let choice = no_newline (decimal s.choice) (digits_decimal own s.choice within.choice) in
+    let thread = no_newline (decimal s.thread) (digits_decimal decimal_numerals s.thread small) in
+    let choice = no_newline (decimal s.choice) (digits_decimal decimal_numerals s.choice within.choice) in
     all_append (is_other 10) (codes "step " ++ decimal s.thread ++ codes " ") (decimal s.choice)
     (all_append (is_other 10) (codes "step " ++ decimal s.thread) (codes " ") (all_append (is_other 10) (codes "step ") (decimal s.thread) refl thread) refl)
     choice

@@ -11,32 +11,22 @@ use Rattle.std.specs.Str.Parse.{AllDigits, digits_value, ParsesUnsigned}
 use Rattle.std.proofs.lemmas.Bool.{and_parts}
 use Rattle.std.proofs.lemmas.Bool.Decides.{nat_tests, Decides-eqb}
 use Rattle.std.proofs.lemmas.Slice.Eq.{starts_is, bytes_eq-Decides}
-use Rattle.std.proofs.lemmas.Str.Parse.{IsNumeralModel, numerals_by_value, tells_digits, parse_digits}
+use Rattle.std.proofs.lemmas.Str.Parse.{tells_digits, parse_digits}
 use Rattle.std.proofs.lemmas.Fmt.{IsAscii-from_digits, digits_decimal, digits_value-decimal, decimal-digits_value, decimal_nonempty, decimal_digit, first_decimal}
 use Rattle.lz_model.specs.declared.schedule.Step.{Step}
 use Rattle.lz_model.specs.ScheduleText.{step_text, IsStep, IsStepLine, IsPassedOver, empty, failed, check, rounds}
 use Rattle.lz_replay.specs.Lines.{is_other, is_numeral, some_where, number_at, behind, step_of, step_split, numbers_at, step_behind, step_at, is_passed_over}
+use Rattle.lz_base.proofs.BoolLemmas.{first_suffices}
+use Rattle.lz_base.proofs.NumeralLemmas.{all_digits, decimal_numerals}
 
 -- ---- numbers
-
-own : IsNumeralModel (AllDigits 10) (digits_value 10)
-own = numerals_by_value (AllDigits 10) tells_digits
 
 some_where_is : {A : Type 0} (b : Bool) (v w : A) → some_where b v ≡ Some w → (b ≡ true) × (v ≡ w)
 some_where_is true v w e = (refl, cc)
 some_where_is false v w e = absurd cc
 
-in_range : (c : ℕ) → is_ascii_digit c ≡ true → IsInRange 48 57 c
-in_range c h = grind (arith, nat_tests)
-
 is_digit_in : (c : ℕ) → IsInRange 48 57 c → is_ascii_digit c ≡ true
 is_digit_in c h = grind (arith, nat_tests)
-
-all_digits : (ds : List ℕ) → list_all is_ascii_digit ds ≡ true → AllDigits 10 ds
-all_digits [] h = tells_digits.empty
-all_digits (d ∷ ds) h =
-    let p = and_parts (is_ascii_digit d) (list_all is_ascii_digit ds) h in
-    tells_digits.more d ds (in_range d p.0) (all_digits ds p.1)
 
 are_digits : (ds : List ℕ) → AllDigits 10 ds → list_all is_ascii_digit ds ≡ true
 are_digits [] h = refl
@@ -72,7 +62,7 @@ numeral_ascii bs h = IsAscii-from_digits bs (numeral_parts bs h).0
 pub parsed_number : {E : Type 0} (bs : List ℕ) (r : Result ℕ E) → is_numeral bs ≡ true → ParsesUnsigned 64 10 bs r → result_ok r ≡ number_at bs
 parsed_number bs r h parsed =
     let parts = numeral_parts bs h in
-    by r (parse_digits own 64 bs r parsed parts.0)
+    by r (parse_digits decimal_numerals 64 bs r parsed parts.0)
   where
     below : (v : ℕ) → v < 2 ^ 64 → ltb v (2 ^ 64) ≡ true
     below v k = grind (arith, nat_tests)
@@ -96,7 +86,7 @@ number_spelled bs n e =
     let parts = numeral_parts bs tests.0 in
     let small : digits_value 10 bs < 2 ^ 64 = below (digits_value 10 bs) tests.1 in (
       subst (λ (v : ℕ). v < 2 ^ 64) found.1 small,
-      sym (decimal-digits_value own bs parts.0 parts.1 parts.2 small) ∙ ap decimal found.1,
+      sym (decimal-digits_value decimal_numerals bs parts.0 parts.1 parts.2 small) ∙ ap decimal found.1,
     )
   where
     below : (v : ℕ) → ltb v (2 ^ 64) ≡ true → v < 2 ^ 64
@@ -109,8 +99,8 @@ leading (suc n) lt e = let f = first_decimal (suc n) (omega arith) lt in absurd 
 -- the digits of a number are read
 pub number_read : (n : ℕ) → n < 2 ^ 64 → number_at (decimal n) ≡ Some n
 number_read n lt =
-    let value = digits_value-decimal own n lt in
-    let numeral = numeral_made (decimal n) (digits_decimal own n lt) (decimal_nonempty n lt) (leading n lt) in
+    let value = digits_value-decimal decimal_numerals n lt in
+    let numeral = numeral_made (decimal n) (digits_decimal decimal_numerals n lt) (decimal_nonempty n lt) (leading n lt) in
     rw (numeral, value, below n lt) refl
   where
     below : (v : ℕ) → v < 2 ^ 64 → ltb v (2 ^ 64) ≡ true
@@ -209,7 +199,7 @@ pub numbers_read : (s : Step) → IsStep s → numbers_at (decimal s.thread ++ 3
 numbers_read s within =
     let t = s.thread in let c = s.choice in
     let small : t < 2 ^ 64 = let w = within.thread in omega arith in
-    let front = others (decimal t) (digits_decimal own t small) (decimal c) in
+    let front = others (decimal t) (digits_decimal decimal_numerals t small) (decimal c) in
     let longer = long (decimal t) (decimal c) in
     let differ : eqb (length (decimal t)) (length (decimal t ++ 32 ∷ decimal c)) ≡ false = unequal (length (decimal t)) (length (decimal t ++ 32 ∷ decimal c)) longer in
     rw (front, differ, take_front (decimal t) (32 ∷ decimal c), drop_past (decimal t) (decimal c) (length (decimal t) + 1) refl, number_read t small, number_read c within.choice, below t within.thread) refl
@@ -259,10 +249,6 @@ passed_spelled (b ∷ rest) h = by (bytes_eq (b ∷ rest) (codes "FAILED")) (sta
     by false false true p q s h = rounds (record { rest = drop (length (codes "rounds ")) (b ∷ rest); is = (starts_is Decides-eqb (b ∷ rest) (codes "rounds ") (starts_with eqb (b ∷ rest) (codes "rounds ")) refl).0 s })
     by false false false p q s h = absurd cc
 
-or_left : (a b : Bool) → a ≡ true → (a || b) ≡ true
-or_left true b e = refl
-or_left false b e = absurd cc
-
 or_right : (a b : Bool) → b ≡ true → (a || b) ≡ true
 or_right true b e = refl
 or_right false b e = e
@@ -271,10 +257,10 @@ pub passed_read : (line : List ℕ) → IsPassedOver line → is_passed_over lin
 passed_read [] h = refl
 passed_read (b ∷ rest) (empty e) = absurd cc
 passed_read (b ∷ rest) (failed e) =
-    or_left (bytes_eq (b ∷ rest) (codes "FAILED")) (starts_with eqb (b ∷ rest) (codes "check ") || starts_with eqb (b ∷ rest) (codes "rounds ")) ((bytes_eq-Decides (b ∷ rest) (codes "FAILED")).1 e)
+    first_suffices (bytes_eq (b ∷ rest) (codes "FAILED")) (starts_with eqb (b ∷ rest) (codes "check ") || starts_with eqb (b ∷ rest) (codes "rounds ")) ((bytes_eq-Decides (b ∷ rest) (codes "FAILED")).1 e)
 passed_read (b ∷ rest) (check front) =
     or_right (bytes_eq (b ∷ rest) (codes "FAILED")) (starts_with eqb (b ∷ rest) (codes "check ") || starts_with eqb (b ∷ rest) (codes "rounds "))
-    (or_left (starts_with eqb (b ∷ rest) (codes "check ")) (starts_with eqb (b ∷ rest) (codes "rounds "))
+    (first_suffices (starts_with eqb (b ∷ rest) (codes "check ")) (starts_with eqb (b ∷ rest) (codes "rounds "))
     ((starts_is Decides-eqb (b ∷ rest) (codes "check ") (starts_with eqb (b ∷ rest) (codes "check ")) refl).1 front.rest front.is))
 passed_read (b ∷ rest) (rounds front) =
     or_right (bytes_eq (b ∷ rest) (codes "FAILED")) (starts_with eqb (b ∷ rest) (codes "check ") || starts_with eqb (b ∷ rest) (codes "rounds "))

@@ -28,7 +28,7 @@ made_function file p p1 p2 p3 gives name params body start kinds of t e1 e2 e3 s
 
 -- ---- parameters
 
-read_item : (ps : List Param) (i : ℕ) (d : Param) → i < length ps → drop i ps ≡ get_or ps i d ∷ drop (i + 1) ps
+pub read_item : (ps : List Param) (i : ℕ) (d : Param) → i < length ps → drop i ps ≡ get_or ps i d ∷ drop (i + 1) ps
 read_item ps i d below = drop_item ps i (get_or ps i d) below (get_or_default ps i d (get_or ps i d) below)
 
 pub params_more : (start now now' : Place) (all ps : List Param) (i : ℕ) (d : Param) → with_params start all ≡ with_params now (drop i ps) → i < length ps

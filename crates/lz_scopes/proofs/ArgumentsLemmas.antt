@@ -1,7 +1,7 @@
 -- Walking arguments from left to right: what is wanted of the next one, and what is left.
 use Rattle.std.proofs.Common.{◌≡◌, ℕ, zero, suc, ◌+◌, ◌<◌, ◌≤◌, Bool, true, false, not, ◌||◌, ◌&&◌, Option, Some, None, List, [], ◌∷◌, length, map, drop, get_or, refl, sym, ap, ◌∙◌, arith, drop-cons, drop_of_length-le}
 use Rattle.lz_tree.specs.declared.expression.Expr.{Expr}
-use Rattle.lz_tree.specs.Trees.{Expression, Expressions, none, and, expression, expressions_of}
+use Rattle.lz_tree.specs.Trees.{Expressions, none, and, expression, expressions_of}
 use Rattle.lz_scopes.specs.declared.fault.Rule.{Rule}
 use Rattle.lz_scopes.specs.declared.place.Place.{Place}
 use Rattle.lz_scopes.specs.declared.value_types.Want.{Want}
@@ -9,6 +9,7 @@ use Rattle.lz_scopes.specs.Constants.{constant_value, is_constant, are_constant}
 use Rattle.lz_scopes.specs.Files.{File}
 use Rattle.lz_scopes.specs.RuleLists.{rule_list}
 use Rattle.lz_scopes.specs.ExpressionTypes.{count, first_want, rest_of, misplaced, is_broken, some_misplaced, is_none_of}
+use Rattle.lz_base.proofs.BoolLemmas.{first_fails, first_holds, first_suffices}
 
 -- the item at a place, and what is behind it
 pub drop_item : {A : Type 0} (xs : List A) (i : ℕ) (x : A) → i < length xs → x ≡ get_or xs i x → drop i xs ≡ x ∷ drop (i + 1) xs
@@ -55,10 +56,6 @@ or_false : (a b : Bool) → a ≡ false → (a || b) ≡ b
 or_false false b is = refl
 or_false true b is = absurd cc
 
-or_true : (a b : Bool) → a ≡ true → (a || b) ≡ true
-or_true true b is = refl
-or_true false b is = absurd cc
-
 module _ (file : File) (place : Place) (rule : Rule) (ws : List Want) (further : Want) where
   -- whether one from a place on breaks the rule
   abbrev pub breaks_from : List Expr → ℕ → Bool
@@ -74,7 +71,7 @@ module _ (file : File) (place : Place) (rule : Rule) (ws : List Want) (further :
       → is_broken rule (misplaced file place (first_want (drop i ws) further) (expression e)) ≡ true → breaks_from es i ≡ true
   breaks_here es i e below is wrong =
       rw (next es i e below is)
-      (or_true (is_broken rule (misplaced file place (first_want (drop i ws) further) (expression e)))
+      (first_suffices (is_broken rule (misplaced file place (first_want (drop i ws) further) (expression e)))
       (some_misplaced file place rule (rest_of (drop i ws)) further (left_at es (i + 1))) wrong)
 
   pub breaks_none : (es : List Expr) (i : ℕ) → length es ≤ i → breaks_from es i ≡ false
@@ -86,18 +83,10 @@ pub drop_nothing : {A : Type 0} (i : ℕ) → drop {A = A} i [] ≡ []
 drop_nothing zero = refl
 drop_nothing (suc i) = refl
 
-and_true : (a b : Bool) → not a ≡ false → (a && b) ≡ b
-and_true true b is = refl
-and_true false b is = absurd cc
-
-and_false : (a b : Bool) → not a ≡ true → (a && b) ≡ false
-and_false false b is = refl
-and_false true b is = absurd cc
-
 pub constant_more : (es : List Expr) (i : ℕ) (e : Expr) → i < length es → e ≡ get_or es i e → not (is_constant (constant_value (expression e))) ≡ false
     → are_constant (left_at es i) ≡ are_constant (left_at es (i + 1))
-constant_more es i e below is right = rw (next es i e below is) (and_true (is_constant (constant_value (expression e))) (are_constant (left_at es (i + 1))) right)
+constant_more es i e below is right = rw (next es i e below is) (first_holds (is_constant (constant_value (expression e))) (are_constant (left_at es (i + 1))) right)
 
 pub constant_not : (es : List Expr) (i : ℕ) (e : Expr) → i < length es → e ≡ get_or es i e → not (is_constant (constant_value (expression e))) ≡ true
     → are_constant (left_at es i) ≡ false
-constant_not es i e below is wrong = rw (next es i e below is) (and_false (is_constant (constant_value (expression e))) (are_constant (left_at es (i + 1))) wrong)
+constant_not es i e below is wrong = rw (next es i e below is) (first_fails (is_constant (constant_value (expression e))) (are_constant (left_at es (i + 1))) wrong)

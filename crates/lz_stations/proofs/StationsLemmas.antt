@@ -7,17 +7,18 @@ use Rattle.lz_tree.specs.declared.scoped.Object.{Object}
 use Rattle.lz_tree.specs.declared.scoped.Object.TheVariants.{Local, Cell, Mutex, Cond, Handle, Routine, Known}
 use Rattle.lz_tree.specs.ScopedTrees.{ScopedExpression, ScopedExpressions, none, and, ScopedInitializer, nothing, single, listed, ScopedInitDeclarator, ScopedStatement, empty, eval, block, declare, when, while, do_while, for, break, continue, return, label, ScopedBranch, absent, branch, ScopedStatements, nil, cons}
 use Rattle.lz_model.specs.Behaviours.{Behaviour, ends_with, stays, ◌and_then◌, picks}
-use Rattle.lz_model.specs.CodeTraces.{Locals, set_local, set_handle, Calls, loc, inputs, kind_of, Flow, normal, breaks, continues, returns, arbitrary_trace, zeros_trace, listed_trace, no_threads_trace, object_trace, declarators_trace, led_on, expression_trace, statement_trace, branch_trace, statements_trace}
+use Rattle.lz_model.specs.CodeTraces.{Locals, set_local, set_handle, Calls, loc, inputs, kind_of, Flow, normal, breaks, continues, returns, arbitrary_trace, listed_trace, no_threads_trace, object_trace, declarators_trace, led_on, expression_trace, statement_trace, branch_trace, statements_trace}
 use Rattle.lz_model.specs.CodeTraces as model
 use Rattle.lz_model.proofs.FrontsLemmas.{FrontCalls, fronts_updates, fronts_chooses, fronts_expression, fronts_statement}
 use Rattle.lz_turns.specs.Seen.{Alike}
 use Rattle.lz_turns.specs.Moves.{argument_at}
 use Rattle.lz_turns.specs.Resumed.{rest_from}
 use Rattle.lz_stations.specs.Stations as at
-use Rattle.lz_stations.specs.Stations.{Station, start, led, evaluated, listing, declaring, filling, arbitrary, filled, initialized, tested, taken, other, opened, turning, turned, bodied, changed, doing, returned, labelled, StationMove, enters_value, enters_part, moves_on, reaches}
+use Rattle.lz_stations.specs.Stations.{Station, start, led, evaluated, listing, declaring, filling, arbitrary, filled, initialized, tested, taken, other, opened, turning, turned, bodied, changed, doing, returned, labelled, enters_value, enters_part, moves_on}
 use Rattle.lz_stations.specs.StationMoves.{parts_of, statement_at, declared_by, declarator_at, Loop, no_loop, before_turns, behind_turns, loop_of, value_of, element_value, initializer_of, in_branch, test_of, change_of, body_of, begin_statement, follow_move, list_move, listed_so, declare_move, listed_move, fill_integer, fill_handle, fill_object, fill_move, filled_if, filled_object, valued_move, arbitrary_move, filled_move, single_value, single_move, initialized_move, test_move, tested_move, turn_move, turning_move, do_again, turned_move, step_move, bodied_move, changed_move, doing_move, return_move, station_move, cleared, emptied, cleared_integer, cleared_object, cleared_by, kept_if, arbitrary_object, filled_one, single_one, initialized_by, arbitrary_by, filled_by, station_leaves}
 use Rattle.lz_stations.specs.StationTraces.{parts_from, declarators_from, elements_from, gets_if, gets, gets_value, gets_single, initialized_trace, listed_part, filling_trace, arbitrary_filled, filled_trace, tested_trace, turns_left, do_turns_left, next_turn, turning_trace, turned_trace, bodied_trace, changed_trace, doing_trace, returned_trace, station_trace, with_value, with_statement, station_moved}
 use Rattle.lz_turns.proofs.SeenLemmas.{alike_same, alike_alike, alike_behind, alike_value, alike_halts, alike_loc, alike_gives, alike_ends, alike_assoc}
+use Rattle.lz_turns.proofs.CallsLemmas.{rest_none, rest_some}
 
 -- ---- lists from a place on
 
@@ -43,21 +44,10 @@ declarators_some [] k d e = absurd cc
 declarators_some (x ∷ rest) zero d e = let same : x ≡ d = cc in ap (λ (y : ScopedInitDeclarator). y ∷ rest) same
 declarators_some (x ∷ rest) (suc k) d e = declarators_some rest k d e
 
-rest_none : (args : ScopedExpressions) (k : ℕ) → argument_at args k ≡ None → rest_from args k ≡ none
-rest_none none zero e = refl
-rest_none none (suc k) e = refl
-rest_none (and a rest) zero e = absurd cc
-rest_none (and a rest) (suc k) e = rest_none rest k e
-
 rest_behind : (args : ScopedExpressions) (k : ℕ) → argument_at args k ≡ None → rest_from args (suc k) ≡ none
 rest_behind none k e = refl
 rest_behind (and a rest) zero e = absurd cc
 rest_behind (and a rest) (suc k) e = rest_behind rest k e
-
-rest_some : (args : ScopedExpressions) (k : ℕ) (a : ScopedExpression) → argument_at args k ≡ Some a → rest_from args k ≡ and a (rest_from args (suc k))
-rest_some none k a e = absurd cc
-rest_some (and x rest) zero a e = let same : x ≡ a = cc in ap (λ (y : ScopedExpression). and y rest) same
-rest_some (and x rest) (suc k) a e = rest_some rest k a e
 
 -- how many elements are left
 some_left : (i len : ℕ) → nat_lt i len ≡ true → len - i ≡ suc (len - suc i)

@@ -23,13 +23,13 @@ use Rattle.lz_turns.proofs.StepsLemmas.{index_moves, place_begins}
 
 -- ---- the arguments from one on
 
-rest_none : (args : ScopedExpressions) (k : ℕ) → argument_at args k ≡ None → rest_from args k ≡ none
+pub rest_none : (args : ScopedExpressions) (k : ℕ) → argument_at args k ≡ None → rest_from args k ≡ none
 rest_none none zero e = refl
 rest_none none (suc k) e = refl
 rest_none (and x rest) zero e = absurd cc
 rest_none (and x rest) (suc k) e = rest_none rest k e
 
-rest_some : (args : ScopedExpressions) (k : ℕ) (a : ScopedExpression) → argument_at args k ≡ Some a → rest_from args k ≡ and a (rest_from args (suc k))
+pub rest_some : (args : ScopedExpressions) (k : ℕ) (a : ScopedExpression) → argument_at args k ≡ Some a → rest_from args k ≡ and a (rest_from args (suc k))
 rest_some none zero a e = absurd cc
 rest_some none (suc k) a e = absurd cc
 rest_some (and x rest) zero a e = let same : x ≡ a = cc in ap (λ (y : ScopedExpression). and y rest) same

@@ -1,6 +1,5 @@
 -- Rows of parameters and of external declarations, walked from left to right.
 use Rattle.std.proofs.Common.{◌≡◌, ℕ, zero, suc, ◌+◌, ◌-◌, ◌<◌, ◌≤◌, Bool, true, false, not, ◌&&◌, List, [], ◌∷◌, ◌++◌, length, map, drop, get_or, slice_get, refl, sym, ap, ◌∙◌, arith, append_assoc, append-nil, drop_of_length-le}
-use Rattle.std.proofs.lemmas.List.{get_or_default}
 use Rattle.lz_tree.specs.declared.expression.TypeName.{TypeName}
 use Rattle.lz_tree.specs.declared.program.External.{External}
 use Rattle.lz_tree.specs.declared.program.Param.{Param}
@@ -13,6 +12,8 @@ use Rattle.lz_scopes.specs.Scopes.{bases, with_param, with_params, after_externa
 use Rattle.lz_scopes.proofs.ArgumentsLemmas.{drop_item}
 use Rattle.lz_types.specs.Faults.{at, param_rules, params_faults, external_faults, externals_faults}
 use Rattle.lz_types.specs.Parts.{is_one_at}
+use Rattle.lz_base.proofs.BoolLemmas.{first_fails, first_holds}
+use Rattle.lz_resolve.proofs.FunctionsLemmas.{read_item}
 
 -- ---- parameters
 
@@ -20,10 +21,6 @@ use Rattle.lz_types.specs.Parts.{is_one_at}
 pub record WalkedParams (file : File) (form : Bool) (start now : Place) (all left : List Param) (noted so_far : List Fault) : Type 0 where
   pub place : with_params start all ≡ with_params now left
   pub faults : noted ++ params_faults file start form all ≡ so_far ++ params_faults file now form left
-
--- an item that is read, and those behind it
-read_item : (ps : List Param) (i : ℕ) (d : Param) → i < length ps → drop i ps ≡ get_or ps i d ∷ drop (i + 1) ps
-read_item ps i d below = drop_item ps i (get_or ps i d) below (get_or_default ps i d (get_or ps i d) below)
 
 pub params_more : (file : File) (form : Bool) (start now now' : Place) (all ps : List Param) (i : ℕ) (d : Param) (noted f f' : List Fault)
     → WalkedParams file form start now all (drop i ps) noted f → i < length ps
@@ -63,23 +60,15 @@ ones_step : (ps : List Param) (others : List TypeName) (i : ℕ) (d : Param) →
     → ones_at ps others i ≡ (is_one_at (get_or ps i d).base (slice_get others i) && ones_at ps others (i + 1))
 ones_step ps others i d below = rw (read_item ps i d below) (front (get_or ps i d).base (bases (drop (i + 1) ps)) others i)
 
-after_true : (a b : Bool) → not a ≡ false → (a && b) ≡ b
-after_true true b is = refl
-after_true false b is = absurd cc
-
-after_false : (a b : Bool) → not a ≡ true → (a && b) ≡ false
-after_false false b is = refl
-after_false true b is = absurd cc
-
 pub ones_more : (ps : List Param) (others : List TypeName) (i : ℕ) (d : Param) → i < length ps
     → not (is_one_at (get_or ps i d).base (slice_get others i)) ≡ false → ones_at ps others i ≡ ones_at ps others (i + 1)
 ones_more ps others i d below same =
-    ones_step ps others i d below ∙ after_true (is_one_at (get_or ps i d).base (slice_get others i)) (ones_at ps others (i + 1)) same
+    ones_step ps others i d below ∙ first_holds (is_one_at (get_or ps i d).base (slice_get others i)) (ones_at ps others (i + 1)) same
 
 pub ones_not : (ps : List Param) (others : List TypeName) (i : ℕ) (d : Param) → i < length ps
     → not (is_one_at (get_or ps i d).base (slice_get others i)) ≡ true → ones_at ps others i ≡ false
 ones_not ps others i d below differs =
-    ones_step ps others i d below ∙ after_false (is_one_at (get_or ps i d).base (slice_get others i)) (ones_at ps others (i + 1)) differs
+    ones_step ps others i d below ∙ first_fails (is_one_at (get_or ps i d).base (slice_get others i)) (ones_at ps others (i + 1)) differs
 
 -- ---- external declarations in a row
 

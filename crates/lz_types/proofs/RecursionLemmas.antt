@@ -1,5 +1,5 @@
 -- In a program that breaks no rule each call leads to a function of the file, and none comes back to its caller.
-use Rattle.std.proofs.Common.{◌≡◌, ℕ, zero, suc, ◌+◌, ◌<◌, ◌≤◌, ◌==◌, Bool, true, false, List, [], ◌∷◌, ◌++◌, length, map, slice_get, Option, Some, None, refl, sym, ap, ◌∙◌, subst, arith, inl, inr, option_map, if◌then◌else◌, IsTrue}
+use Rattle.std.proofs.Common.{◌≡◌, ℕ, zero, suc, ◌+◌, ◌<◌, ◌≤◌, ◌==◌, Bool, true, false, List, [], ◌∷◌, ◌++◌, length, slice_get, Option, Some, None, refl, sym, ap, ◌∙◌, subst, arith, inl, inr, if◌then◌else◌, IsTrue}
 use Rattle.std.specs.List.{Contains}
 use Rattle.std.proofs.lemmas.Bool.{cases_Bool, eqb-true}
 use Rattle.std.proofs.lemmas.List.{length-map}
@@ -11,7 +11,7 @@ use Rattle.lz_tree.specs.declared.scoped.KnownName.{KnownName}
 use Rattle.lz_tree.specs.declared.scoped.KnownName.TheVariants.{ReachError}
 use Rattle.lz_tree.specs.Calls.{called, expression_calls, index_calls, expressions_calls, optional_calls, initializer_calls, declarators_calls, statement_calls, branch_calls, statements_calls, body_at}
 use Rattle.lz_tree.specs.ScopedTrees.{ScopedDefinition}
-use Rattle.lz_tree.specs.Trees.{Expression, constant, null, text, object, address, paren, unary, cast, binary, choose, assign, step, call, Index, whole, element, Expressions, none, and, Initializer, nothing, single, listed, mutex, cond, InitDeclarator, Declaration, Statement, empty, eval, block, declare, when, while, do_while, for, break, continue, return, label, Branch, absent, branch, Statements, nil, cons, ExternalDeclaration, objects, prototype, function, TranslationUnit}
+use Rattle.lz_tree.specs.Trees.{Expression, constant, null, text, object, address, paren, unary, cast, binary, choose, assign, step, call, Index, whole, element, Expressions, none, and, Initializer, nothing, single, listed, mutex, cond, InitDeclarator, Statement, empty, eval, block, declare, when, while, do_while, for, break, continue, return, label, Branch, absent, branch, Statements, nil, cons, ExternalDeclaration, objects, prototype, function, TranslationUnit}
 use Rattle.lz_scopes.specs.declared.fault.Fault.{Fault}
 use Rattle.lz_scopes.specs.declared.fault.Rule.{Rule}
 use Rattle.lz_scopes.specs.declared.fault.Rule.TheVariants.{Recursive}
@@ -23,17 +23,18 @@ use Rattle.lz_scopes.specs.declared.value_types.Want.TheVariants as wants
 use Rattle.lz_scopes.specs.ValueTypes as values
 use Rattle.lz_scopes.specs.ValueTypes.{want_of}
 use Rattle.lz_scopes.specs.Names.{nearest}
-use Rattle.lz_scopes.specs.Scopes.{signatures, signature_in, is_outside, around, function_meant, called_by, inside, inside_loop, behind, after, after_branch, after_all, with_declarator, with_declarators, with_declaration, with_param, with_params, into, into_body, with_function, past, after_body, after_external, opening}
+use Rattle.lz_scopes.specs.Scopes.{signatures, around, function_meant, called_by, inside, inside_loop, behind, after, with_declarator, with_declaration, with_param, with_params, into, into_body, with_function, past, after_body, after_external, opening}
 use Rattle.lz_scopes.specs.Files.{File, Facts, file_with, bare, function_from, function_named, known_at, returns_to, row_has}
 use Rattle.lz_scopes.specs.ExpressionTypes.{callee, can_return, late_call, choice_want, type_of, type_at}
 use Rattle.lz_scopes.proofs.PlacesLemmas.{Kept, kept}
-use Rattle.lz_resolve.specs.ScopedPrograms.{or_nothing, scope, scope_index, scope_all, scope_optional, scope_initializer, scope_declarators, scope_statement, scope_branch, scope_statements, scope_body, scope_external, scope_externals, scoped_of}
-use Rattle.lz_calls.specs.Calls.{AreFacts, Calls, Reaches, row, graph_of}
+use Rattle.lz_resolve.specs.ScopedPrograms.{or_nothing, scope, scope_index, scope_all, scope_optional, scope_initializer, scope_declarators, scope_statement, scope_branch, scope_statements, scope_body, scope_externals, scoped_of}
+use Rattle.lz_calls.specs.Calls.{Calls, graph_of}
 use Rattle.lz_calls.specs.Facts.{IsRecursionFree}
 use Rattle.lz_calls.specs.Reaching.{Among}
 use Rattle.lz_calls.proofs.ReachingLemmas.{no_truth, calls_within, contains_among}
 use Rattle.lz_types.specs.Checking.{AreFaults}
-use Rattle.lz_types.specs.Faults.{at, node, target, faults, index_faults, all_faults, optional_faults, initializer_faults, declarators_faults, declaration_faults, statement_faults, branch_faults, statements_faults, body_faults, params_faults, external_faults, externals_faults, file_faults}
+use Rattle.lz_types.specs.Faults.{at, node, target, faults, index_faults, all_faults, optional_faults, initializer_faults, declarators_faults, statement_faults, branch_faults, statements_faults, body_faults, external_faults, externals_faults, file_faults}
+use Rattle.lz_calls.proofs.FactsLemmas.{row_at}
 
 -- ---- lists without items
 
@@ -357,11 +358,6 @@ same_length known_file p (objects hidden of ∷ rest) = same_length known_file (
 same_length known_file p (prototype line lead gives name params void_word ∷ rest) = same_length known_file (after_external p (prototype line lead gives name params void_word)) rest
 same_length known_file p (function line hidden gives name params void_word body ∷ rest) =
     ap (λ (n : ℕ). suc n) (same_length known_file (after_external p (function line hidden gives name params void_word body)) rest)
-
-row_at : (functions : List ScopedDefinition) (f : ℕ) → f < length functions → row (slice_get (graph_of functions) f) ≡ statement_calls (body_at functions f)
-row_at [] f low = absurd (omega arith)
-row_at (d ∷ rest) zero low = refl
-row_at (d ∷ rest) (suc f) low = row_at rest f (omega arith)
 
 call_of : (unit : TranslationUnit) (facts : Facts) (f g : ℕ) → file_faults (file_with unit facts) unit.externals ≡ []
     → Calls (graph_of (scope_externals (bare unit) opening unit.externals)) f g → Leads (file_with unit facts) f g

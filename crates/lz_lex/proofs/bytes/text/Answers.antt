@@ -1,5 +1,5 @@
 use Rattle.std.proofs.lemmas.Str.{IsUtf8-from_ascii}
-use Rattle.lz_lex.proofs.DigitsLemmas.{ok_from}
+use Rattle.lz_base.proofs.ResultLemmas.{ok_from}
 use Rattle.lz_lex.proofs.bytes.text.Goals as goal
 
 pub unwrap-requires : goal.unwrap-requires
