@@ -8,7 +8,7 @@ use Rattle.lz_tree.specs.declared.scoped.Object.TheVariants.{Local, Cell, Mutex,
 use Rattle.lz_tree.specs.ScopedTrees.{ScopedExpression, lvalue, ScopedIndex, whole, element}
 use Rattle.lz_model.specs.Behaviours.{Behaviour, ends_with, ◌and_then◌, picks}
 use Rattle.lz_model.specs.CodeTraces.{Locals, set_local, Calls, checks, read_at, write_at, needs, bounds, checks_index, len_of, first_of, place_trace, index_trace}
-use Rattle.lz_model.proofs.FrontsLemmas.{Fronts, FrontCalls, fronts_value, fronts_halts, fronts_updates, fronts_tells, fronts_chooses, fronts_expression}
+use Rattle.lz_model.proofs.FrontsLemmas.{Fronts, FrontCalls, fronts_value, fronts_halts, fronts_updates, fronts_tells, fronts_chooses, fronts_expression, fronts_checks_index}
 use Rattle.lz_turns.specs.Stages.{Stage}
 use Rattle.lz_turns.specs.Moves.{check_move, need_move, bound_move, index_move, divide_move, read_move, write_move, written}
 use Rattle.lz_turns.specs.Seen.{Alike}
