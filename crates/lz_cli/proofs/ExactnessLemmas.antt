@@ -1,5 +1,6 @@
 -- The cases of a lawful ending exclude each other.
-use Rattle.std.proofs.Common.{◌≡◌, ℕ, ◌<◌, ◌≤◌, ◌⊎◌, inl, inr, ⊎_elim, List, length, Option, Some, None, refl, sym, ◌∙◌, ap, subst, arith}
+use Rattle.std.proofs.Common.{◌≡◌, ℕ, zero, suc, ◌+◌, ◌*◌, ◌^◌, ◌<◌, ◌≤◌, ◌⊎◌, inl, inr, ⊎_elim, List, length, replicate, Option, Some, None, refl, sym, ◌∙◌, ap, subst, arith}
+use Rattle.std.specs.List.{AllByRecursion}
 use Rattle.lz_base.specs.declared.word.BreakKind.{BreakKind}
 use Rattle.lz_outside.specs.Faults.{Rose}
 use Rattle.lz_outside.specs.Files.{FileMap, Lacks, Tells, Holds, IsLonger}
@@ -10,20 +11,26 @@ use Rattle.lz_parse.specs.Programs.{IsProgram, IsRefusedAt}
 use Rattle.lz_model.specs.declared.schedule.Step.{Step}
 use Rattle.lz_model.specs.declared.actions.Event.{Event}
 use Rattle.lz_model.specs.Rounds.{rounds_of, threads_of}
+use Rattle.lz_model.specs.Interleavings.{IsRun}
 use Rattle.lz_model.specs.BrokenRuns.{IsBrokenRun, rounds_of_run, Follows}
 use Rattle.lz_model.specs.Programs.{process_of, IsViolatedWithin}
-use Rattle.lz_model.specs.ScheduleText.{IsScheduleText, IsNoSchedule, lines_of}
+use Rattle.lz_model.specs.ScheduleText.{IsStep, IsScheduleText, IsNoSchedule, lines_of}
 use Rattle.lz_tree.specs.ScopedTrees.{ScopedProgram}
 use Rattle.lz_resolve.specs.ScopedPrograms.{scoped_of}
 use Rattle.lz_choices.specs.Choices.{first_choice}
+use Rattle.lz_choices.specs.MainAlone.{main_step}
+use Rattle.lz_slots.specs.Slots.{function_sites, slots}
+use Rattle.lz_slots.specs.Costs.{thread_cost, cost}
 use Rattle.lz_replay.specs.declared.answer.Replayed.{Replayed}
+use Rattle.lz_replay.specs.declared.answer.Replayed.TheVariants.{Broke}
 use Rattle.lz_replay.specs.Replays.{Says}
 use Rattle.lz_cli.specs.declared.ending.Ending.{Ending}
 use Rattle.lz_cli.specs.declared.ending.Ending.TheVariants.{Successful, Failed, NotAToken, NotAProgram, Faulty, ManySlots, HighCost, Recheck, Replay, NotBuilt, FileTooLong, ScheduleTooLong, ProofTooLong, BadSchedule, ReadFault, OutOfMemory}
 use Rattle.lz_cli.specs.CommandLine.{IsFileName, IsProofName, IsSourceName, IsNamed}
 use Rattle.lz_cli.specs.Recheck.{proof_limit, IsRechecked}
 use Rattle.lz_base.specs.Limits.{file_limit}
-use Rattle.lz_cli.specs.Limits.{Bounds, defaults, checking, replaying, schedule_limit}
+use Rattle.lz_cli.specs.Limits.{Bounds, defaults, checking, replaying, cost_limit, schedule_limit}
+use Rattle.lz_cli.specs.Report.{report}
 use Rattle.lz_cli.specs.Source.{HasNoTokens, HasTree}
 use Rattle.lz_cli.specs.Admission.{IsFaulty, IsAccepted, HasManySlots, HasHighCost, IsAdmitted}
 use Rattle.lz_cli.specs.Ending.{Call, IsSource, IsRunSource, IsProofSource, IsVerdict, IsFailure, IsLawful, NamesNoFile}
@@ -31,6 +38,7 @@ use Rattle.lz_cli.specs.Exactness.{IsToldFile, IsToldCheck, IsToldRun, IsToldSou
 use Rattle.lz_cli.proofs.AdmissionLemmas.{same_accepted, no_fault_accepted, one_faulty, no_slots_accepted, no_cost_accepted, one_slots, one_cost, same_program, no_choice_chosen, one_choice}
 use Rattle.lz_cli.proofs.SourceLemmas.{OneTree, one_tokens, no_tokens, one_place, no_tree}
 use Rattle.lz_cli.proofs.ScheduleLemmas.{no_first_bad, one_first_bad}
+use Rattle.lz_cli.proofs.ReportLemmas.{report_read}
 use Rattle.lz_cli.proofs.NamesLemmas.{same_check, check_proof, same_run, check_run, proof_run, same_named}
 use Rattle.lz_cli.proofs.OriginLemmas.{unfit_verdict, admitted_fits, RunEnds, replayed, unreadable, longer, unread, Origin, decided, refused, ran, rechecked, too_long, proof_too_long, not_read, unnamed, out, origin}
 
@@ -584,3 +592,48 @@ pub missing_schedule_ends : OneTree → (call : Call) (turns : ℕ) (schedule co
 missing_schedule_ends one call turns schedule content ending told short admitted lacks lawful =
     missing_schedule_by call turns schedule (scoped_of admitted.tree) ending lacks
     (run_here one call turns schedule content ending told short admitted (origin call ending lawful))
+
+-- ---- a failure, and the replay of its report
+
+-- what is taken of lz_choices: each step of a run of a program without a choice is one of `main` with the choice 0
+abbrev pub MainAlone : Type 0
+MainAlone = (p : ScopedProgram) (n : ℕ) (run : List Event) (schedule : List Step) → first_choice p ≡ None → IsRun (process_of p n) run → Follows run schedule
+    → schedule ≡ replicate (length schedule) main_step
+
+steps_alone : (count : ℕ) → AllByRecursion IsStep (replicate count main_step)
+steps_alone zero = tt
+steps_alone (suc count) = (record { thread = omega arith; choice = omega arith }, steps_alone count)
+
+failure_read : MainAlone → (bounds : Bounds) (bytes : List ℕ) (kind : BreakKind) (line : ℕ) (schedule : List Step) → bounds.rounds < 2 ^ 64 → line < 2 ^ 32 → IsFailure bounds bytes kind line schedule
+    → IsScheduleText (report (Failed kind line schedule)) schedule
+failure_read alone bounds bytes kind line schedule rounds small failure =
+    let steps = alone (scoped_of failure.admitted.tree) bounds.unwind failure.breaks.run schedule failure.no_choice failure.breaks.broken_.is failure.breaks.follows in
+    report_read kind line schedule (omega (arith, small)) (omega (arith, rounds, failure.within_rounds))
+    (subst (AllByRecursion IsStep) (sym steps) (steps_alone (length schedule)))
+
+pub failure_reads : MainAlone → (call : Call) (kind : BreakKind) (line : ℕ) (schedule : List Step) → line < 2 ^ 32 → IsLawful call (Failed kind line schedule)
+    → IsScheduleText (report (Failed kind line schedule)) schedule
+failure_reads alone call kind line schedule small from = failure_read alone (checking from.0) from.1 kind line schedule (omega arith) small from.3
+
+-- a round costs no more than two
+within_a_round : {turns : ℕ} {bytes : List ℕ} (a : IsAdmitted (checking turns) bytes) → cost (scoped_of a.tree) turns 1 ≤ cost_limit
+within_a_round {turns} a = least (thread_cost p.functions turns threads p.main) (function_sites p.functions turns (thread_cost p.functions turns threads) p.main) cost_limit a.low_cost
+  where
+    p : ScopedProgram
+    p = scoped_of a.tree
+
+    threads : ℕ
+    threads = slots p turns + 1
+
+    least : (x y most : ℕ) → 2 * (x + y) ≤ most → 1 * (x + y) ≤ most
+    least x y most le = omega (arith, le)
+
+pub failure_runs : OneTree → OneSchedule → OneReplay → MainAlone → (call again : Call) (turns : ℕ) (content : List ℕ) (kind : BreakKind) (line : ℕ) (schedule : List Step) (ending : Ending)
+    → IsToldCheck call turns content → length content ≤ file_limit → line < 2 ^ 32 → IsLawful call (Failed kind line schedule) → IsToldReplay again turns content (report (Failed kind line schedule))
+    → length (report (Failed kind line schedule)) ≤ schedule_limit → IsLawful again ending → IsEither (Replay (Broke kind line (length schedule))) ending
+failure_runs one one_s one_r alone call again turns content kind line schedule ending told short small lawful told_again text_short also =
+    let failure : IsFailure (checking turns) content kind line schedule = check_verdict call turns content (Failed kind line schedule) told short (origin call (Failed kind line schedule) lawful) in
+    let a = failure.admitted in
+    let admitted : IsAdmitted (replaying turns) content = record { tree = a.tree; accepted = a.accepted; few_slots = a.few_slots; low_cost = within_a_round a } in
+    replayed_ends one one_s one_r again turns content (report (Failed kind line schedule)) schedule (Broke kind line (length schedule)) ending told_again short text_short admitted
+    (failure_read alone (checking turns) content kind line schedule (omega arith) small failure) (failure.breaks, refl) also

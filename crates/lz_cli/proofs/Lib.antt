@@ -5,6 +5,7 @@ mod NamesLemmas
 pub mod NumbersLemmas
 mod OriginLemmas
 pub mod RefutationLemmas
+mod ReportLemmas
 mod ScheduleLemmas
 mod SourceLemmas
 pub mod WordsLemmas

@@ -1,7 +1,8 @@
 //! Which endings are lawful where the folder tells the named file and no read of it failed, where the told files lack
 //! it, and where no file is named.
 
-ghost use Rattle.std.specs.Prelude.{◌≡◌, ℕ, ◌<◌, ◌≤◌, List, length, Some, None};
+ghost use Rattle.std.specs.Prelude.{◌≡◌, ℕ, ◌<◌, ◌≤◌, ◌^◌, List, length, Some, None};
+ghost use Rattle.lz_base.specs.declared.word.BreakKind.{BreakKind};
 ghost use Rattle.lz_outside.specs.Files.{Lacks};
 ghost use Rattle.lz_tree.specs.declared.token.Tokens.{Tokens};
 ghost use Rattle.lz_tree.specs.Tokens.{HasTokens};
@@ -20,9 +21,11 @@ ghost use Rattle.lz_cli.specs.Source.{HasNoTokens};
 ghost use Rattle.lz_cli.specs.Limits.{Bounds, defaults, checking, replaying, schedule_limit};
 ghost use Rattle.lz_cli.specs.Admission.{IsFaulty, HasManySlots, HasHighCost, IsAdmitted};
 ghost use Rattle.lz_cli.specs.Ending.{Call, IsLawful, NamesNoFile};
+ghost use Rattle.lz_cli.specs.Report.{report};
 ghost use Rattle.lz_cli.specs.Recheck.{proof_limit};
 ghost use Rattle.lz_cli.specs.Exactness.{IsToldFile, IsToldCheck, IsToldRun, IsToldSource, IsToldReplay, IsToldProof, IsAnswer, IsDecided, IsDecidedWithin, IsRefusal, IsEither, IsRunAnswer};
 
+use lz_choices::no_choice_no_turn;
 use lz_model::broken_in_its_rounds;
 use lz_parse::one_program;
 use lz_replay::{one_answer, one_schedule};
@@ -87,6 +90,15 @@ pub fn endings_are_exact()
     ensures not_built_within { (call : Call) (turns : ℕ) (content : List ℕ) (line : ℕ) (ending : Ending) → IsToldCheck call turns content
         → length content ≤ file_limit → (admitted : IsAdmitted (checking turns) content) → first_choice (scoped_of admitted.tree) ≡ Some line
         → IsLawful call ending → IsEither (Ending.NotBuilt line) ending }
+    // The report of a failure, whose line is below 2^32 as in all code, is, read as a schedule text, its schedule;
+    ensures report_is_schedule { (call : Call) (kind : BreakKind) (line : ℕ) (schedule : List Step) → line < 2 ^ 32
+        → IsLawful call (Ending.Failed kind line schedule) → IsScheduleText (report (Ending.Failed kind line schedule)) schedule }
+    // so the file, run by its own report with as many turns, breaks the same check.
+    ensures failure_replayed { (call again : Call) (turns : ℕ) (content : List ℕ) (kind : BreakKind) (line : ℕ) (schedule : List Step) (ending : Ending)
+        → IsToldCheck call turns content → length content ≤ file_limit → line < 2 ^ 32 → IsLawful call (Ending.Failed kind line schedule)
+        → IsToldReplay again turns content (report (Ending.Failed kind line schedule))
+        → length (report (Ending.Failed kind line schedule)) ≤ schedule_limit → IsLawful again ending
+        → IsEither (Ending.Replay (Replayed.Broke kind line (length schedule))) ending }
     // Of any source file, whose program is decided or run, it is told as above that a rule is broken,
     ensures source_faulty { (call : Call) (bounds : Bounds) (content : List ℕ) (line rule : ℕ) (ending : Ending)
         → IsToldSource call bounds content → length content ≤ file_limit → IsFaulty content line rule → IsLawful call ending
@@ -137,6 +149,7 @@ pub fn endings_are_exact()
         → Lacks call.files schedule → IsLawful call ending → IsEither (Ending.ReadFault schedule) ending }
 {
     broken_in_its_rounds();
+    no_choice_no_turn();
     one_program();
     one_schedule();
     one_answer();

@@ -18,7 +18,7 @@ use Rattle.lz_base.proofs.NumeralLemmas.{decimal_numerals}
 -- ---- a printed schedule is read
 
 -- bytes without a newline, and what stands behind them and a newline
-line_first : (xs rest : List ℕ) → list_all (is_other 10) xs ≡ true → lines_of (xs ++ 10 ∷ rest) ≡ xs ∷ lines_of rest
+pub line_first : (xs rest : List ℕ) → list_all (is_other 10) xs ≡ true → lines_of (xs ++ 10 ∷ rest) ≡ xs ∷ lines_of rest
 line_first [] rest h = refl
 line_first (x ∷ xs) rest h =
     let p = and_parts (is_other 10 x) (list_all (is_other 10) xs) h in
@@ -29,13 +29,15 @@ line_first (x ∷ xs) rest h =
     is_false true e = absurd cc
     is_false false e = refl
 
-all_append : (p : ℕ → Bool) (xs ys : List ℕ) → list_all p xs ≡ true → list_all p ys ≡ true → list_all p (xs ++ ys) ≡ true
+-- a test of all elements of two lists
+pub all_append : (p : ℕ → Bool) (xs ys : List ℕ) → list_all p xs ≡ true → list_all p ys ≡ true → list_all p (xs ++ ys) ≡ true
 all_append p [] ys h k = k
 all_append p (x ∷ xs) ys h k =
     let parts = and_parts (p x) (list_all p xs) h in
     rw (parts.0, all_append p xs ys parts.1 k) refl
 
-no_newline : (ds : List ℕ) → AllDigits 10 ds → list_all (is_other 10) ds ≡ true
+-- digits have no newline
+pub no_newline : (ds : List ℕ) → AllDigits 10 ds → list_all (is_other 10) ds ≡ true
 no_newline [] h = refl
 no_newline (d ∷ ds) h =
     let p = tells_digits.parts d ds h in

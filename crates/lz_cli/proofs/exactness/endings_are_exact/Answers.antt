@@ -1,4 +1,4 @@
-use Rattle.lz_cli.proofs.ExactnessLemmas.{default_source, default_named, decided_ends, decided_within, not_built_ends, not_built_within, faulty_ends, slots_ends, cost_ends, not_a_token_ends, not_a_program_ends, too_long_ends, rechecked_ends, proof_too_long_ends, missing_ends, no_file_ends, answered_ends, replayed_ends, bad_schedule_ends, long_schedule_ends, missing_schedule_ends}
+use Rattle.lz_cli.proofs.ExactnessLemmas.{default_source, default_named, decided_ends, decided_within, not_built_ends, not_built_within, faulty_ends, slots_ends, cost_ends, not_a_token_ends, not_a_program_ends, too_long_ends, rechecked_ends, proof_too_long_ends, missing_ends, no_file_ends, answered_ends, replayed_ends, bad_schedule_ends, long_schedule_ends, missing_schedule_ends, failure_reads, failure_runs}
 use Rattle.std.proofs.Common.{inl, inr}
 use Rattle.lz_cli.specs.Limits.{defaults}
 use Rattle.lz_cli.proofs.SourceLemmas.{one_refused}
@@ -51,6 +51,12 @@ returns-clause-decided_within c = decided_within c.one_program.ensures c.broken_
 
 pub returns-clause-not_built_within : goal.returns-clause-not_built_within
 returns-clause-not_built_within c = not_built_within c.one_program.ensures
+
+pub returns-clause-report_is_schedule : goal.returns-clause-report_is_schedule
+returns-clause-report_is_schedule c = failure_reads c.no_choice_no_turn.ensures
+
+pub returns-clause-failure_replayed : goal.returns-clause-failure_replayed
+returns-clause-failure_replayed c = failure_runs c.one_program.ensures c.one_schedule.ensures c.one_answer.ensures c.no_choice_no_turn.ensures
 
 pub returns-clause-source_faulty : goal.returns-clause-source_faulty
 returns-clause-source_faulty c = faulty_ends c.one_program.ensures
