@@ -57,8 +57,8 @@ with_head a b rest e = ap (λ (x : Act). x ∷ rest) e
 
 asked_value : (choice line v : ℕ) (first : Act) → first ≡ at line (Input v) → answers.HasChoice choice first.action → v < value_bound → v ≡ choice % value_bound
 asked_value choice line v first e asked below =
-    let is : v ≡ choice = subst (λ (a : Act). answers.HasChoice choice a.action) e asked in
-    sym (mod-eq_of_lt below) ∙ ap (λ (x : ℕ). x % value_bound) is
+    let asks : (v ≡ choice) ⊎ (v ≡ choice % value_bound) = subst (λ (a : Act). answers.HasChoice choice a.action) e asked in
+    elim asks [ inl is ↦ sym (mod-eq_of_lt below) ∙ ap (λ (x : ℕ). x % value_bound) is | inr is ↦ is ]
 
 read_same : (line cell c d : ℕ) → at line (Rd cell c) ≡ at line (Rd cell d) → c ≡ d
 read_same line cell c d e = let is : Rd cell c ≡ Rd cell d = ap (λ (a : Act). a.action) e in cc

@@ -51,9 +51,9 @@ abbrev pub StandsFor : Action → Action → Type 0
 StandsFor (Signal cond woken) action = (other : Option ℕ) × (action ≡ Signal cond other)
 StandsFor answered action = action ≡ answered
 
--- An input at the head has the value that is asked for.
+-- An input at the head has the value that is asked for, or that value as a word.
 abbrev pub HasChoice : ℕ → Action → Type 0
-HasChoice choice (Input value) = value ≡ choice
+HasChoice choice (Input value) = (value ≡ choice) ⊎ (value ≡ choice % value_bound)
 HasChoice choice action = ⊤
 
 abbrev pub IsAsked : ℕ → List Act → Type 0

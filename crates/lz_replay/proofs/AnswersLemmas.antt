@@ -19,7 +19,7 @@ use Rattle.lz_replay.specs.Stands.{Same, IsNext}
 
 asked_of : (a : Action) (choice : ℕ) → choice_of a ≡ Some choice → HasChoice choice a
 asked_of Loc choice e = tt
-asked_of (Input v) choice e = cc
+asked_of (Input v) choice e = inl cc
 asked_of (Check v kind) choice e = tt
 asked_of (Assume v) choice e = tt
 asked_of (Rd cell v) choice e = tt
