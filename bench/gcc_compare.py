@@ -286,7 +286,7 @@ class Maker:
                 self.block(self.some(1, 3), depth - 1, f"while ({name}-- > 0) " if "unsigned" not in base else f"while ({name}--) ")
             else:
                 self.block(self.some(1, 3), depth - 1, "do ")
-                self.lines[-1] = f"}} while ({name}-- > 1{'' if self.chance(0.7) else ' && ' + self.seq(1)});"
+                self.lines[-1] = f"}} while ({name}-- > 1{'' if self.chance(0.7) else f' && ({self.seq(1)})'});"
             self.line("}")
         self.scopes.pop()
         self.arrays.pop()
