@@ -357,7 +357,7 @@ class Maker:
         """An expression without effects."""
         if depth <= 0 or self.chance(0.2):
             return self.leaf()
-        kinds = ["sum"] * 4 + ["compared"] * 3 + ["bits"] * 2 + ["divided", "shifted", "shifted", "logical", "logical", "unary", "unary", "chosen", "cast", "called"]
+        kinds = ["sum"] * 4 + ["compared"] * 3 + ["bits", "shifted", "logical", "unary"] * 2 + ["divided", "chosen", "cast", "called"]
         return getattr(self, "pure_" + self.one(*kinds))(depth)
 
     def leaf(self):
@@ -431,14 +431,16 @@ class Maker:
         step = self.one(f"{name}++", f"{name}--", f"++{name}", f"--{name}")
         compared = f"{step} {self.one(*COMPARISONS)} {self.constant()}"
         op = self.one("+=", "-=", "^=", "|=", "&=", "*=")
-        return self.one(step, compared, compared, f"({name} = {self.pure(2)})", f"({name} {op} {self.pure(1)}) {self.one(*COMPARISONS)} {self.constant()}")
+        updated = f"({name} {op} {self.pure(1)}) {self.one(*COMPARISONS)} {self.constant()}"
+        return self.one(step, compared, compared, f"({name} = {self.pure(2)})", updated)
 
 
 def spread(random, lines):
     """The lines as text, some empty lines and comments between them."""
     made = []
     for line in lines:
-        made += [""] * (random.random() < 0.1) + ["/* two\n   lines */"] * (random.random() < 0.03) + [line + " // to the end" * (random.random() < 0.03)]
+        made += [""] * (random.random() < 0.1) + ["/* two\n   lines */"] * (random.random() < 0.03)
+        made.append(line + " // to the end" * (random.random() < 0.03))
     return "\n".join(made) + "\n"
 
 
