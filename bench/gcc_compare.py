@@ -11,9 +11,9 @@ the second text are made, so that most of them hold for a while, and some break 
 
 In mode replay the schedule is as many `step 0 0` as go, which is the index that is told where there are too many: the answer is to be
 `BROKEN` with the kind and line of gcc's check, or `HOLDS`. In mode check it is to be `FAILED` with them, and as many steps as that
-schedule has, or `SUCCESSFUL`. A program that the sanitizers reject for an index or a divisor is compared too: the first break is to be one
-of `bounds` or `divzero` on that line, as no operand of a statement is on another line. Told are each difference and how often each answer
-came, and with `--changed`, where the command is handed each program with one operator changed, how many of these are answered otherwise."""
+schedule has, or `SUCCESSFUL`. Some programs have an index or a divisor that may be none; gcc's text tests these, and which of two in a
+statement is the first is left open, since C leaves it open. Told are each difference and how often each answer came, and with
+`--changed`, where the command is handed each program with one operator changed, how many of these are answered otherwise."""
 
 import argparse
 import collections
@@ -37,6 +37,8 @@ static void probed(int number, unsigned value) { printf("\n?%d %u\n", number, va
 #define __VERIFIER_error() ended("reached", __LINE__)
 #define __VERIFIER_assume(e) ((e) ? (void)0 : ended("none", 0))
 #define abort() ended("none", 0)
+#define INDEX(i, length) ((unsigned)(i) < length ? (void)0 : ended("bounds", __LINE__), (i))
+#define DIVISOR(e) ((e) ? (void)0 : ended("divzero", __LINE__), (e))
 """
 GCC = ["gcc", "-O0", "-fwrapv", "-w", "-std=gnu99"]
 SANITIZED = ["-g", "-fsanitize=undefined,address", "-fno-sanitize-recover=all"]
@@ -276,7 +278,7 @@ class Maker:
             self.block(self.some(1, 3), depth - 1, f"for (int {name} = {turns} - 1; {name} >= 0 && {self.pure(1)}; {name}--) ")
         elif kind == "endless":
             self.line(f"for (int {name} = 0; ; {name}++) {{")
-            self.line(f"if ({name} >= {turns}) break;")
+            self.line(f"if ({name} >= {min(turns, TURNS - 1)}) break;")
             self.several(self.some(1, 3), depth - 1)
             self.line("}")
         else:
@@ -286,7 +288,7 @@ class Maker:
                 self.block(self.some(1, 3), depth - 1, f"while ({name}-- > 0) " if "unsigned" not in base else f"while ({name}--) ")
             else:
                 self.block(self.some(1, 3), depth - 1, "do ")
-                self.lines[-1] = f"}} while ({name}-- > 1{'' if self.chance(0.7) else ' && ' + self.seq(1)});"
+                self.lines[-1] = f"}} while ({name}-- > 1{'' if self.chance(0.7) else f' && ({self.seq(1)})'});"
             self.line("}")
         self.scopes.pop()
         self.arrays.pop()
@@ -336,7 +338,7 @@ class Maker:
             return f"{name}[{self.some(0, length - 1)}]"
         index = self.pure(depth - 1)
         if self.risky and self.chance(0.06):
-            return f"{name}[{index}]"
+            return f"{name}[INDEX({index}, {length})]"
         if length in (1, 2, 4, 8):
             return f"{name}[{index} & {length - 1}]" if index.isalnum() else f"{name}[({index}) & {length - 1}]"
         return f"{name}[(unsigned)({index}) % {length}u]"
@@ -346,7 +348,9 @@ class Maker:
         value = self.pure(depth - 1)
         if op in ("<<", ">>") and not (self.risky and self.chance(0.03)):
             return f"(({value}) & 31)"
-        if op in ("/", "%") and not (self.risky and self.chance(0.06)):
+        if op in ("/", "%") and self.risky and self.chance(0.06):
+            return f"DIVISOR(({value}))"
+        if op in ("/", "%"):
             return self.one(f"((({value}) & 15) + 1)", f"(({value}) | 1)", "3", "7u", "-5", "1000003")
         return f"({value})"
 
@@ -357,7 +361,7 @@ class Maker:
         """An expression without effects."""
         if depth <= 0 or self.chance(0.2):
             return self.leaf()
-        kinds = ["sum"] * 4 + ["compared"] * 3 + ["bits"] * 2 + ["divided", "shifted", "shifted", "logical", "logical", "unary", "unary", "chosen", "cast", "called"]
+        kinds = ["sum"] * 4 + ["compared"] * 3 + ["bits", "shifted", "logical", "unary"] * 2 + ["divided", "chosen", "cast", "called"]
         return getattr(self, "pure_" + self.one(*kinds))(depth)
 
     def leaf(self):
@@ -431,14 +435,16 @@ class Maker:
         step = self.one(f"{name}++", f"{name}--", f"++{name}", f"--{name}")
         compared = f"{step} {self.one(*COMPARISONS)} {self.constant()}"
         op = self.one("+=", "-=", "^=", "|=", "&=", "*=")
-        return self.one(step, compared, compared, f"({name} = {self.pure(2)})", f"({name} {op} {self.pure(1)}) {self.one(*COMPARISONS)} {self.constant()}")
+        updated = f"({name} {op} {self.pure(1)}) {self.one(*COMPARISONS)} {self.constant()}"
+        return self.one(step, compared, compared, f"({name} = {self.pure(2)})", updated)
 
 
 def spread(random, lines):
     """The lines as text, some empty lines and comments between them."""
     made = []
     for line in lines:
-        made += [""] * (random.random() < 0.1) + ["/* two\n   lines */"] * (random.random() < 0.03) + [line + " // to the end" * (random.random() < 0.03)]
+        made += [""] * (random.random() < 0.1) + ["/* two\n   lines */"] * (random.random() < 0.03)
+        made.append(line + " // to the end" * (random.random() < 0.03))
     return "\n".join(made) + "\n"
 
 
@@ -453,6 +459,24 @@ def changed(random, text):
         return text
     place = random.choice(places)
     return f"{text[:place.start()]} {OTHERS[place[1]]} {text[place.end():]}"
+
+
+def unmarked(text):
+    """The text that the command reads: an index and a divisor without the test that gcc makes of it, `INDEX(i, length)` and `DIVISOR(e)`."""
+    made, closing = [], []  # of each open parenthesis, what its end writes
+    for piece in re.split(r"(INDEX\(|DIVISOR\(|, \d+\)|[()])", text):
+        if piece in ("INDEX(", "DIVISOR("):
+            closing.append("")
+        elif piece == "(":
+            closing.append(")")
+            made.append(piece)
+        elif piece.startswith(", ") and piece.endswith(")") and closing[-1]:
+            made += [piece[:-1], closing.pop()]
+        elif piece.endswith(")") and piece.strip(", 0123456789)") == "":
+            made.append(closing.pop())
+        else:
+            made.append(piece)
+    return "".join(made)
 
 
 PROBE = re.compile(r"@\((\d+), (.*)\)@")
@@ -527,18 +551,6 @@ def met_values(printed):
     return met
 
 
-UNDEFINED = re.compile(r"\.c:(\d+):\d+: runtime error: (index .* out of bounds|division by zero|.*)")
-
-
-def undefined(said):
-    """The line of the first undefined behaviour and its kind as the command calls it, or None for a kind that it has no check for."""
-    found = UNDEFINED.search(said)
-    if not found:
-        return 0, None
-    kind = "bounds" if found[2].startswith("index ") else "divzero" if found[2] == "division by zero" else None
-    return int(found[1]), kind
-
-
 # ---------------------------------------------------------------------------------------------------------------- comparing
 
 
@@ -581,6 +593,9 @@ class Command:
         return (found[1], int(found[2])) if whole else done.stdout[:200]
 
 
+DEFINED = ("bounds", "divzero")  # the checks that C has not
+
+
 class Comparison:
     def __init__(self, asked, directory):
         self.asked, self.directory = asked, directory
@@ -595,28 +610,17 @@ class Comparison:
         for place, text in enumerate(texts):
             status, printed, said = self.gcc.run(probed, place)
             if status or said:
-                self.reject(numbers[place], PROBE.sub(r"\2;", text), *undefined(said))
+                self.tally["undefined, left out"] += 1
             else:
                 kept.append((numbers[place], asserted(chosen[place], text, met_values(printed))))
         plain = self.gcc.built("plain", [text for _, text in kept], []) if kept else None
         for place, (number, text) in enumerate(kept):
             self.compare(number, text, ending(self.gcc.run(plain, place)[1]))
 
-    def reject(self, number, text, line, kind):
-        """A program with undefined behaviour: what the command has a check for breaks there."""
-        if kind is None:
-            self.tally["undefined otherwise, left out"] += 1
-            return
-        self.command.write(text)
-        got, _ = self.command.replayed()
-        if got and got[0] in ("bounds", "divzero"):  # which of two comes first is open in C
-            kind = got[0]
-        self.judge(f"undefined for gcc: {kind}", number, text, (kind, line), got)
-
     def compare(self, number, text, expected):
         if expected == "no end":
             sys.exit(f"program {number} has no end\n{text}")
-        told = f"gcc: {expected[0] if expected else 'none breaks'}"
+        text, told = unmarked(text), f"gcc: {expected[0] if expected else 'none breaks'}"
         if self.asked.changed:
             self.command.write(changed(random.Random(number), text))
             same = self.command.replayed()[0] == expected
@@ -633,6 +637,8 @@ class Comparison:
             self.tally["too dear, left out"] += 1
             return False
         self.tally[told] += 1
+        if expected and got and expected[0] in DEFINED and got[0] in DEFINED:  # which of two on a line comes first is open in C
+            got = (expected[0], got[1])
         if got != expected:
             self.wrong += 1
             print(f"program {number}: gcc {expected!r}, the command {got!r}", flush=True)

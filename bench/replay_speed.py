@@ -118,26 +118,26 @@ def far(size):
 
 
 def written_out(size):
-    """So many statements in blocks of 80, which are 8,000 together with those that a loop of a hundred turns does before."""
-    turns = (8000 - size) // 100
-    return f"int x;\nint main(void) {{\nfor (int i = 0; i < 100; i++) {{\n{'x = 1; ' * turns}\n}}\n{'x = 1; ' * size}\n}}\n"
+    """So many of 8,000 statements one after the other, behind the others in a loop of a hundred turns."""
+    part = (8000 - size) // 100
+    return f"int x;\nint main(void) {{\nfor (int i = 0; i < 100; i++) {{\n{'x = 1; ' * part}\n}}\n{'x = 1; ' * size}\n}}\n"
 
 
 def chain(size):
-    """`nested` with its statements in the last of a chain of so many calls."""
-    rows = [f"void f0(void) {{ {'x = 1; ' * 79}}}\n"] + [f"void f{i}(void) {{ f{i - 1}(); }}\n" for i in range(1, size)]
+    """A loop of a hundred turns around a chain of so many calls, the last one of 60 statements."""
+    rows = [f"void f0(void) {{ {'x = 1; ' * 60}}}\n"] + [f"void f{i}(void) {{ f{i - 1}(); }}\n" for i in range(1, size)]
     return f"int x;\n{''.join(rows)}int main(void) {{ for (int i = 0; i < 100; i++) f{size - 1}(); }}\n"
 
 
 def operands(size):
-    """Statements with so many operands each, 8,000 reads together."""
+    """Statements with so many operands each, 4,000 together."""
     return "int x;\nint main(void) {\n" + f"{' + '.join(['x'] * size)};\n" * (4000 // size) + "}\n"
 
 
 # each with its sizes
 SAME = {
     "uncalled": (uncalled, [0, 250, 2500, 25000]), "objects": (objects, [0, 600, 6000, 60000]), "high": (high, [0, 10, 30, 90, 180]),
-    "far": (far, [0, 2, 20]), "written out": (written_out, [0, 2000, 4000, 8000]), "chain": (chain, [1, 3, 10, 20]),
+    "far": (far, [0, 2, 20]), "written out": (written_out, [0, 2000, 4000, 8000]), "chain": (chain, [1, 3, 10, 30]),
     "operands": (operands, [1, 5, 20, 80]),
 }  # fmt: skip
 
