@@ -203,7 +203,7 @@ module _ (p : ScopedProgram) (n : ℕ) where
           → ((list : List Act) → IsBehind p n answer (record { standing = after; whole = whole }) list → MayGo p n whole (going running) list)
           → IsChosen choice answer → Causes (going running) answer after
           → Answers p n choice (record { standing = going running; whole = whole }) answer (record { standing = after; whole = whole })
-      answering answer after f g chosen causes = record { there = of; back = λ list asked b. g list b; chosen = chosen; causes = causes; whole = refl }
+      answering answer after f g chosen causes = record { there = of; back = λ list b. g list b; chosen = chosen; causes = causes; whole = refl }
         where
           of : (list : List Act) → IsAsked choice list → MayGo p n whole (going running) list → (list ≡ []) ⊎ IsBehind p n answer (record { standing = after; whole = whole }) list
           of [] asked h = inl refl
@@ -346,13 +346,13 @@ module _ (p : ScopedProgram) (n : ℕ) where
 
     -- a thread that ended, or was cut, answers so again
     pub answers_ended : (choice : ℕ) → Answers p n choice (record { standing = ended; whole = whole }) has_ended (record { standing = ended; whole = whole })
-    answers_ended choice = record { there = λ list asked h. inl h; back = λ list asked b. absurd b; chosen = tt; causes = (refl, refl); whole = refl }
+    answers_ended choice = record { there = λ list asked h. inl h; back = λ list b. absurd b; chosen = tt; causes = (refl, refl); whole = refl }
 
     pub answers_failed : (choice : ℕ) → Answers p n choice (record { standing = failed; whole = whole }) is_cut (record { standing = failed; whole = whole })
-    answers_failed choice = record { there = λ list asked h. inl h; back = λ list asked b. absurd b; chosen = tt; causes = refl; whole = refl }
+    answers_failed choice = record { there = λ list asked h. inl h; back = λ list b. absurd b; chosen = tt; causes = refl; whole = refl }
 
     pub answers_stopped : (choice : ℕ) → Answers p n choice (record { standing = stopped; whole = whole }) is_cut (record { standing = stopped; whole = whole })
-    answers_stopped choice = record { there = λ list asked h. inl h; back = λ list asked b. absurd b; chosen = tt; causes = refl; whole = refl }
+    answers_stopped choice = record { there = λ list asked h. inl h; back = λ list b. absurd b; chosen = tt; causes = refl; whole = refl }
 
   -- all calls of a thread are done
   pub turn_ends : (handles : List ℕ) (v made : ℕ) → Turns p n (running_with [] handles v made) (ending v handles)

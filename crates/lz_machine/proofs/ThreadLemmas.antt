@@ -20,10 +20,10 @@ told p n choice whole word running begun turned answer after given a next stands
     subst (λ (x : Standing). Answers p n choice (thread_with (going (given_to word running)) whole) answer (thread_with x whole)) (sym stands) three
 
 begins_main : (p : ScopedProgram) (value : ℕ) → StartsAs p p.main [] true (first_thread p.main [] true)
-begins_main p value = record { there = λ n list h. starts_there p n p.main [] true list h; back = λ n list h. starts_back p n p.main [] true list h }
+begins_main p value = record { there = λ n list h. starts_there p n p.main [] true list h; back = λ n list h. starts_back p n p.main [] true list h; begins = tt }
 
 begins_routine : (p : ScopedProgram) (routine value : ℕ) → StartsAs p routine (value ∷ []) false (first_thread routine (value ∷ []) false)
-begins_routine p routine value = record { there = λ n list h. starts_there p n routine (value ∷ []) false list h; back = λ n list h. starts_back p n routine (value ∷ []) false list h }
+begins_routine p routine value = record { there = λ n list h. starts_there p n routine (value ∷ []) false list h; back = λ n list h. starts_back p n routine (value ∷ []) false list h; begins = tt }
 
 -- `main` before its first action, and a routine
 pub main_begins : (p : ScopedProgram) (value : ℕ) (arguments : List ℕ) (thread : Thread) (start : Option ℕ) → start ≡ None → thread ≡ first_thread p.main arguments true → arguments ≡ [] → IsStarted p start value thread

@@ -6,7 +6,7 @@ use Rattle.lz_model.specs.declared.actions.Action.{Action}
 use Rattle.lz_model.specs.declared.actions.Action.TheVariants.{Input, Check, Assume, Rd, Signal, End}
 use Rattle.lz_model.specs.Actions.{Act}
 use Rattle.lz_model.specs.CodeTraces.{at}
-use Rattle.lz_machine.specs.Threads.{Running, Standing, going, failed, stopped, ended, Thread, MayDo}
+use Rattle.lz_machine.specs.Threads.{Running, Standing, going, failed, stopped, ended, spent, Thread, MayDo}
 
 -- What a thread answers: a read of a cell, whose word is to be read back; another action that is not Loc; that it gave
 -- its end; or that nothing more comes.
@@ -26,6 +26,7 @@ given_word word (going running) = going (given_to word running)
 given_word word failed = failed
 given_word word stopped = stopped
 given_word word ended = ended
+given_word word spent = spent
 
 abbrev pub read_back : Option ℕ → Thread → Thread
 read_back word thread = record { standing = given_word word thread.standing; whole = thread.whole }
@@ -77,6 +78,7 @@ IsGoing (going running) = ⊤
 IsGoing failed = ⊥
 IsGoing stopped = ⊥
 IsGoing ended = ⊥
+IsGoing spent = ⊥
 
 -- an end ends the thread, a check or an assumption of 0 cuts it, and behind every other action it goes on
 abbrev pub StandsBehind : Action → Standing → Type 0
@@ -91,8 +93,10 @@ CutBehind (going running) standing = standing ≡ stopped
 CutBehind failed standing = standing ≡ failed
 CutBehind stopped standing = standing ≡ stopped
 CutBehind ended standing = ⊥
+CutBehind spent standing = ⊥
 
--- Why a thread gives this answer: it goes on; it gave its end before; or it did not, and nothing more comes.
+-- Why a thread gives this answer: it goes on; it gave its end before; or it did not, and nothing more comes. One that is
+-- spent gives none.
 abbrev pub Causes : Standing → Answer → Standing → Type 0
 Causes before (reads cell line) after = IsGoing before × IsGoing after
 Causes before (acts action line) after = IsGoing before × StandsBehind action after
@@ -100,10 +104,10 @@ Causes before has_ended after = (before ≡ ended) × (after ≡ ended)
 Causes before is_cut after = CutBehind before after
 
 -- The answer of a thread on its next action, and the thread behind it. What the thread could do before it is nothing, or
--- what comes behind the answer: at an input for the value that is asked for, at a signal whomever it wakes.
+-- what comes behind the answer: at an input for the value that is asked for and for its word, at a signal whomever it wakes.
 pub record Answers (p : ScopedProgram) (n choice : ℕ) (before : Thread) (answer : Answer) (after : Thread) : Type 0 where
   pub there : (list : List Act) → IsAsked choice list → MayDo p n before list → (list ≡ []) ⊎ IsBehind p n answer after list
-  pub back : (list : List Act) → IsAsked choice list → IsBehind p n answer after list → MayDo p n before list
+  pub back : (list : List Act) → IsBehind p n answer after list → MayDo p n before list
   pub chosen : IsChosen choice answer
   pub causes : Causes before.standing answer after.standing
   pub whole : after.whole ≡ before.whole

@@ -8,7 +8,7 @@ use Rattle.lz_machine.specs.declared.turn.Turned.TheVariants as code_turned
 use Rattle.lz_machine.specs.declared.answer.Standing as held_standing
 use Rattle.lz_machine.specs.declared.answer.Standing.TheVariants as code_standing
 use Rattle.lz_machine.specs.declared.parts.Parts as held_parts
-use Rattle.lz_machine.specs.Threads.{Frame, Running, Standing, going, failed, stopped, ended, Thread}
+use Rattle.lz_machine.specs.Threads.{Frame, Running, Standing, going, failed, stopped, ended, spent, Thread}
 use Rattle.lz_machine.specs.Turns.{Turned, again, pausing, failing, refusing, leaving, stopping, ending}
 
 abbrev pub caller_of : Caller → Frame
@@ -52,6 +52,7 @@ standing_of (code_standing.Going running) = going (running_of running)
 standing_of code_standing.Failed = failed
 standing_of code_standing.Stopped = stopped
 standing_of code_standing.Ended = ended
+standing_of code_standing.Spent = spent
 
 abbrev pub thread_of : held_parts.Parts → Thread
 thread_of thread = record { standing = standing_of thread.standing; whole = thread.whole }

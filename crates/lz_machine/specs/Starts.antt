@@ -15,7 +15,7 @@ use Rattle.lz_machine.specs.declared.answer.Next.TheVariants as code_next
 use Rattle.lz_machine.specs.declared.answer.ReadBack.{ReadBack}
 use Rattle.lz_machine.specs.declared.answer.ReadBack.TheVariants as code_back
 use Rattle.lz_machine.specs.Threads.{Thread, MayDo, IsOf}
-use Rattle.lz_machine.specs.Answers.{Answer, reads, acts, has_ended, is_cut}
+use Rattle.lz_machine.specs.Answers.{Answer, reads, acts, has_ended, is_cut, IsGoing}
 
 -- ---- programs
 
@@ -34,10 +34,11 @@ pub record IsThreadOf (p : ScopedProgram) (thread : Thread) : Type 0 where
 
 -- ---- how a thread begins
 
--- The thread may do just the traces of this function with these arguments, Loc left out, whatever the turns of loops.
+-- The thread goes on, and may do just the traces of this function with these arguments, Loc left out, whatever the turns of loops.
 pub record StartsAs (p : ScopedProgram) (function : ℕ) (arguments : List ℕ) (whole : Bool) (thread : Thread) : Type 0 where
   pub there : (n : ℕ) (list : List Act) → MayDo p n thread list → IsSeen (IsThreadTrace p n function arguments whole) list
   pub back : (n : ℕ) (list : List Act) → IsSeen (IsThreadTrace p n function arguments whole) list → MayDo p n thread list
+  pub begins : IsGoing thread.standing
 
 -- Thread 0 runs `main`, whose end is that of the process, and another one its routine with its argument.
 abbrev pub IsStarted : ScopedProgram → Option ℕ → ℕ → Thread → Type 0

@@ -43,12 +43,13 @@ pub record Running : Type 0 where
   pub made : ℕ
 
 -- Whether a thread goes on: it may; a check or an assumption of 0 cut it; nothing more comes, since a loop would begin
--- one turn more than it may; or it gave its end.
+-- one turn more than it may; it gave its end; or it is spent, since memory ran out while it was asked for its next action.
 pub data Standing : Type 0 where
   going : (running : Running) → Standing
   failed : Standing
   stopped : Standing
   ended : Standing
+  spent : Standing
 
 -- A thread, and whether its end ends the process.
 pub record Thread : Type 0 where
@@ -77,6 +78,7 @@ MayGo p n whole (going running) acts = (acts ≡ []) ⊎ Comes p n whole running
 MayGo p n whole failed acts = acts ≡ []
 MayGo p n whole stopped acts = acts ≡ []
 MayGo p n whole ended acts = acts ≡ []
+MayGo p n whole spent acts = acts ≡ []
 
 -- What a thread may still do, where a loop has at most n turns an entry. It may stop at any time.
 abbrev pub MayDo : ScopedProgram → ℕ → Thread → List Act → Type 0
@@ -94,6 +96,7 @@ StandsOf functions (going running) = AreOf functions running.frames
 StandsOf functions failed = ⊤
 StandsOf functions stopped = ⊤
 StandsOf functions ended = ⊤
+StandsOf functions spent = ⊤
 
 abbrev pub IsOf : List ScopedDefinition → Thread → Type 0
 IsOf functions thread = StandsOf functions thread.standing

@@ -42,6 +42,8 @@ pub enum Standing {
     Stopped,
     /// It gave its end.
     Ended,
+    /// Memory ran out while it was asked for its next action.
+    Spent,
 }
 
 /// An answer, and how the thread stands behind it.

@@ -1,6 +1,6 @@
-ghost use Rattle.std.specs.Prelude.{◌≡◌, ◌<◌, IfOk, length};
+ghost use Rattle.std.specs.Prelude.{◌≡◌, ◌<◌, IfOk, IfErr, length};
 ghost use Rattle.lz_tree.specs.ScopedTrees.{scoped_program};
-ghost use Rattle.lz_machine.specs.Threads.{going, AreOf, IsOf, StandsOf, first_thread};
+ghost use Rattle.lz_machine.specs.Threads.{going, spent, AreOf, IsOf, StandsOf, first_thread};
 ghost use Rattle.lz_machine.specs.Answers as words;
 ghost use Rattle.lz_machine.specs.Answers.{Answers};
 ghost use Rattle.lz_machine.specs.Starts.{IsRunnable, IsStarted, IsWordAnswer, answer_of, word_of};
@@ -120,8 +120,9 @@ impl Parts {
         ensures answer { IfOk result (λ next. Answers (scoped_program program.now) unwind choice (words.read_back (word_of read) (thread_of self.old)) (answer_of next) (thread_of self.new)) }
         ensures words { IfOk result (λ next. IsWordAnswer (answer_of next)) }
         ensures own { IfOk result (λ _. IsOf (scoped_program program.now).functions (thread_of self.new)) }
+        ensures memory { IfErr result (λ _. (thread_of self.new).standing ≡ spent) }
     {
-        match mem::replace(&mut self.standing, Standing::Stopped) {
+        match mem::replace(&mut self.standing, Standing::Spent) {
             Standing::Going { running } => {
                 let answered = answer(
                     alloc, program, order, unwind, choice, read, self.whole, running,
@@ -133,11 +134,15 @@ impl Parts {
                 self.standing = Standing::Failed;
                 Ok(Next::Cut)
             }
-            Standing::Stopped => Ok(Next::Cut),
+            Standing::Stopped => {
+                self.standing = Standing::Stopped;
+                Ok(Next::Cut)
+            }
             Standing::Ended => {
                 self.standing = Standing::Ended;
                 Ok(Next::Ended)
             }
+            Standing::Spent => Err(Memory),
         }
     }
 }

@@ -1,6 +1,7 @@
-ghost use Rattle.std.specs.Prelude.{IfOk};
+ghost use Rattle.std.specs.Prelude.{◌≡◌, IfOk, IfErr};
 ghost use Rattle.lz_tree.specs.ScopedTrees.{scoped_program};
 ghost use Rattle.lz_machine.specs.Answers.{Answers, read_back};
+ghost use Rattle.lz_machine.specs.Threads.{spent};
 ghost use Rattle.lz_machine.specs.Starts.{IsRunnable, IsThreadOf, IsStarted, IsWordAnswer, answer_of, word_of};
 
 use crate::answer::{Next, ReadBack};
@@ -48,8 +49,8 @@ impl Thread {
 
     /// The next action of the thread that is not local, where loops have at most `unwind` turns an entry: an input has
     /// `choice` for its value, modulo 2^32, a signal wakes the thread before `choice`, and nobody for 0. `read` is the
-    /// word that was found where the answer before was a read. It ends, since no function recurs. For want of memory
-    /// nothing is known of the thread from then on.
+    /// word that was found where the answer before was a read. It ends, since no function recurs. Once memory ran out, each
+    /// later call tells so too.
     pub fn next(
         &mut self,
         alloc: Global,
@@ -64,6 +65,7 @@ impl Thread {
         ensures answer { IfOk result (λ next. Answers (scoped_program program.now) unwind choice (read_back (word_of read) self.old) (answer_of next) self.new) }
         ensures own { IfOk result (λ _. IsThreadOf (scoped_program program.now) self.new) }
         ensures words { IfOk result (λ next. IsWordAnswer (answer_of next)) }
+        ensures memory { IfErr result (λ _. self.new.standing ≡ spent) }
     {
         let next = self
             .parts

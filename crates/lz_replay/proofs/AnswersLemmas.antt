@@ -155,7 +155,7 @@ module _ (p : ScopedProgram) (n : ℕ) where
       ]
 
       act_behind : (rest : List Act) → choice_of action ≡ Some choice → MayDo p n after rest → MayDo p n before (at line action ∷ rest)
-      act_behind rest chosen h = is.back (at line action ∷ rest) (asked_of action choice chosen) (action, rest, stands_itself action, refl, h)
+      act_behind rest chosen h = is.back (at line action ∷ rest) (action, rest, stands_itself action, refl, h)
 
       pub act_next : (s : State) (step : Step) → step.choice ≡ choice → step.thread < length s.threads → choice_of action ≡ Some choice → IsNext s step (MayDo p n before) (at line action)
       act_next s step same made chosen = record {
@@ -203,12 +203,12 @@ module _ (p : ScopedProgram) (n : ℕ) where
       }
         where
           read_behind : (word : ℕ) (rest : List Act) → choice ≡ 0 → word < value_bound → MayDo p n (read_back (Some word) after) rest → MayDo p n before (at line (Rd cell word) ∷ rest)
-          read_behind word rest none below h = is.back (at line (Rd cell word) ∷ rest) tt (word, rest, below, refl, h)
+          read_behind word rest none below h = is.back (at line (Rd cell word) ∷ rest) (word, rest, below, refl, h)
 
       pub read_here : (word : ℕ) → choice ≡ 0 → word < value_bound → Same (λ acts. MayDo p n before (at line (Rd cell word) ∷ acts)) (MayDo p n (read_back (Some word) after))
       read_here word none below = record {
         there = λ list h. there list (behind_read (at line (Rd cell word)) list (ap (λ (c : ℕ). Some c) (sym none)) h);
-        back = λ list h. is.back (at line (Rd cell word) ∷ list) tt (word, list, below, refl, h);
+        back = λ list h. is.back (at line (Rd cell word) ∷ list) (word, list, below, refl, h);
       }
         where
           there : (list : List Act) → (other : ℕ) × (other < value_bound) × (at line (Rd cell word) ≡ at line (Rd cell other)) × MayDo p n (read_back (Some other) after) list → MayDo p n (read_back (Some word) after) list
