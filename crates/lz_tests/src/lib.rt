@@ -3,6 +3,8 @@
 #![tactic(auto)]
 
 #[cfg(test)]
+mod actions;
+#[cfg(test)]
 mod bounds;
 #[cfg(test)]
 mod command;
@@ -12,3 +14,5 @@ mod lazy;
 mod replays;
 #[cfg(test)]
 mod rules;
+#[cfg(test)]
+mod schedules;

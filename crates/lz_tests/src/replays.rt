@@ -9,11 +9,11 @@ use std::process::Abort;
 use std::test::Fail;
 
 /// Calls the command with these words, over a folder with the source `a.c` and the schedule `s`, whose listed calls fail.
-fn call(
+pub fn call(
     alloc: Global,
     words: &[&str],
     source: &str,
-    schedule: &str,
+    schedule: &[u8],
     fails: Calls,
 ) -> Result<Told, Memory> {
     let mut given = Words::new(alloc);
@@ -28,7 +28,7 @@ fn call(
         bytes,
     })?;
     let mut folder = MemoryFolder::new(alloc, files, 1, AMPLE, fails)?;
-    if write_file(&mut folder, "s", schedule.as_bytes()).is_err() {
+    if write_file(&mut folder, "s", schedule).is_err() {
         return Err(Memory);
     }
     let mut sink = MemorySink::new(alloc, AMPLE, Calls::new(alloc))?;
@@ -39,7 +39,7 @@ fn call(
 }
 
 /// Two threads that add one to a cell, each with a read and a write.
-const INCREMENTS: &str =
+pub const INCREMENTS: &str =
     "int x;\nvoid *inc(void *arg) {\n  x = x + 1;\n  return NULL;\n}\nint main(void) {\n  pthread_t a, b;\n  pthread_create(&a, NULL, inc, NULL);\n  pthread_create(&b, NULL, inc, NULL);\n  pthread_join(a, NULL);\n  pthread_join(b, NULL);\n  assert(x == 2);\n}\n";
 
 /// A free input, and a check that the greatest int breaks.
@@ -216,8 +216,8 @@ const TEXTS: [(&str, &str, u8, &str); 17] = [
     ),
 ];
 
-fn compare(rt: &impl Abort, told: &Told, report: &str, status: u8, reason: &str) {
-    assert_eq!(rt; told.text.items(), report.as_bytes(), "{reason}");
+pub fn compare(rt: &impl Abort, told: &Told, report: &[u8], status: u8, reason: &str) {
+    assert_eq!(rt; told.text.items(), report, "{reason}");
     assert_eq!(rt; told.ended.status, status, "{reason}");
     assert!(rt;
         matches!(&told.ended.evidence, Evidence::Nothing),
@@ -225,27 +225,34 @@ fn compare(rt: &impl Abort, told: &Told, report: &str, status: u8, reason: &str)
     );
 }
 
-const PLAIN: [&str; 5] = ["--mode", "replay", "--schedule", "s", "a.c"];
+/// The words of a replay with the default bounds.
+pub const PLAIN: [&str; 5] = ["--mode", "replay", "--schedule", "s", "a.c"];
 
 #[test]
 fn replays(rt: HostRuntime) -> Result<(), Fail> {
     for (source, schedule, report, status, reason) in REPLAYS {
-        let told = call(rt.alloc(), &PLAIN, source, schedule, Calls::new(rt.alloc()))
-            .ok()
-            .ok_or("memory")?;
-        compare(&rt, &told, report, status, reason);
+        let told = call(
+            rt.alloc(),
+            &PLAIN,
+            source,
+            schedule.as_bytes(),
+            Calls::new(rt.alloc()),
+        )
+        .ok()
+        .ok_or("memory")?;
+        compare(&rt, &told, report.as_bytes(), status, reason);
     }
     for (schedule, report, status, reason) in TEXTS {
         let told = call(
             rt.alloc(),
             &PLAIN,
             INCREMENTS,
-            schedule,
+            schedule.as_bytes(),
             Calls::new(rt.alloc()),
         )
         .ok()
         .ok_or("memory")?;
-        compare(&rt, &told, report, status, reason);
+        compare(&rt, &told, report.as_bytes(), status, reason);
     }
     Ok(())
 }
@@ -422,12 +429,12 @@ fn words_of_replays(rt: HostRuntime) -> Result<(), Fail> {
             rt.alloc(),
             words,
             source,
-            "step 0 0\n",
+            b"step 0 0\n",
             Calls::new(rt.alloc()),
         )
         .ok()
         .ok_or("memory")?;
-        compare(&rt, &told, report, status, reason);
+        compare(&rt, &told, report.as_bytes(), status, reason);
     }
     Ok(())
 }
@@ -437,9 +444,9 @@ fn words_of_replays(rt: HostRuntime) -> Result<(), Fail> {
 fn a_failing_read_of_a_schedule(rt: HostRuntime) -> Result<(), Fail> {
     let mut fails = Calls::new(rt.alloc());
     fails.push(4).ok().ok_or("memory")?;
-    let told = call(rt.alloc(), &PLAIN, LOOP, "step 0 0\n", fails)
+    let told = call(rt.alloc(), &PLAIN, LOOP, b"step 0 0\n", fails)
         .ok()
         .ok_or("memory")?;
-    compare(&rt, &told, "READ s\n", 6, "the fifth call of the folder");
+    compare(&rt, &told, b"READ s\n", 6, "the fifth call of the folder");
     Ok(())
 }
