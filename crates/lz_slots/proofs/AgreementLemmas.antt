@@ -16,19 +16,19 @@ use Rattle.lz_slots.proofs.SaturationLemmas.{saturated_sum, saturated_product}
 
 -- What is seen of numbers that tells sums from what is seen of the parts: all, or where they stop.
 pub record Sees (h : ℕ → ℕ) : Type 0 where
-  pub sum : (a b c d : ℕ) → h a ≡ h c → h b ≡ h d → h (a + b) ≡ h (c + d)
+  pub sum : {a b c d : ℕ} → h a ≡ h c → h b ≡ h d → h (a + b) ≡ h (c + d)
   pub product : (k a b : ℕ) → h a ≡ h b → h (k * a) ≡ h (k * b)
 
 -- all of them
 pub sees_all : Sees (λ n. n)
 sees_all = record {
-  sum = λ a b c d left right. cc;
+  sum = λ left right. cc;
   product = λ k a b e. ap (λ x. k * x) e;
 }
 
 -- where they stop at the greatest
 pub sees_saturated : Sees saturated
-sees_saturated = record { sum = saturated_sum; product = saturated_product }
+sees_saturated = record { sum = λ {a} {b} {c} {d} left right. saturated_sum a b c d left right; product = saturated_product }
 
 -- Two numbers of functions agree at the functions of a list.
 pub record Agree (h : ℕ → ℕ) (f g : ℕ → ℕ) (calls : List ℕ) : Type 0 where
@@ -62,7 +62,7 @@ known_agrees sees t u e Abort a b = refl
 known_agrees sees t u e AtomicBegin a b = refl
 known_agrees sees t u e AtomicEnd a b = refl
 known_agrees sees t u e Create a b = refl
-known_agrees sees t u e Join a b = sees.sum _ _ _ _ (sees.sum _ _ _ _ refl (sees.product 512 t u e)) refl
+known_agrees sees t u e Join a b = sees.sum (sees.sum refl (sees.product 512 t u e)) refl
 known_agrees sees t u e Exit a b = refl
 known_agrees sees t u e MutexInit a b = refl
 known_agrees sees t u e MutexDestroy a b = refl
@@ -71,8 +71,8 @@ known_agrees sees t u e MutexUnlock a b = refl
 known_agrees sees t u e CondInit a b = refl
 known_agrees sees t u e CondDestroy a b = refl
 known_agrees sees t u e CondWait a b = refl
-known_agrees sees t u e CondSignal a b = sees.sum _ _ _ _ (sees.sum _ _ _ _ refl (sees.product 512 t u e)) refl
-known_agrees sees t u e CondBroadcast a b = sees.sum _ _ _ _ (sees.sum _ _ _ _ refl (sees.product 512 t u e)) refl
+known_agrees sees t u e CondSignal a b = sees.sum (sees.sum refl (sees.product 512 t u e)) refl
+known_agrees sees t u e CondBroadcast a b = sees.sum (sees.sum refl (sees.product 512 t u e)) refl
 known_agrees sees t u e Printf a b = refl
 
 callee_agrees : {h : ℕ → ℕ} {r s : Rates} → AgreeCosts h r s → (callee : Object) (args : ScopedExpressions) → Agree h r.bodies s.bodies (called callee) → h (callee_cost r callee args) ≡ h (callee_cost s callee args)
@@ -81,7 +81,7 @@ callee_agrees k (Cell first len kind) args a = refl
 callee_agrees k (Mutex first len) args a = refl
 callee_agrees k (Cond first len) args a = refl
 callee_agrees k (Handle first len) args a = refl
-callee_agrees k (Routine function) args a = k.sees.sum _ _ _ _ refl (a.at function (head_contained function []))
+callee_agrees k (Routine function) args a = k.sees.sum refl (a.at function (head_contained function []))
 callee_agrees k (Known name) args a = known_agrees k.sees _ _ k.threads name _ _
 
 mutual
@@ -89,20 +89,20 @@ mutual
   expression_agrees k (constant line value form kind) a = refl
   expression_agrees k (null line kind) a = refl
   expression_agrees k (text line kind) a = refl
-  expression_agrees k (object (lvalue at meant index checked) kind) a = k.sees.sum _ _ _ _ refl (index_agrees k index a)
+  expression_agrees k (object (lvalue at meant index checked) kind) a = k.sees.sum refl (index_agrees k index a)
   expression_agrees k (address line (lvalue at meant index checked) kind) a = index_agrees k index a
   expression_agrees k (paren line e kind) a = expression_agrees k e a
-  expression_agrees k (unary line op e kind) a = k.sees.sum _ _ _ _ refl (expression_agrees k e a)
-  expression_agrees k (cast line to e kind) a = k.sees.sum _ _ _ _ refl (expression_agrees k e a)
+  expression_agrees k (unary line op e kind) a = k.sees.sum refl (expression_agrees k e a)
+  expression_agrees k (cast line to e kind) a = k.sees.sum refl (expression_agrees k e a)
   expression_agrees k (binary line op l q kind) a =
-      k.sees.sum _ _ _ _ (k.sees.sum _ _ _ _ refl (expression_agrees k l (agree_left _ _ a))) (expression_agrees k q (agree_right _ _ a))
+      k.sees.sum (k.sees.sum refl (expression_agrees k l (agree_left _ _ a))) (expression_agrees k q (agree_right _ _ a))
   expression_agrees k (choose line l m q kind) a =
-      k.sees.sum _ _ _ _ (k.sees.sum _ _ _ _ (k.sees.sum _ _ _ _ refl (expression_agrees k l (agree_left _ _ a))) (expression_agrees k m (agree_left _ _ (agree_right _ _ a)))) (expression_agrees k q (agree_right _ _ (agree_right _ _ a)))
+      k.sees.sum (k.sees.sum (k.sees.sum refl (expression_agrees k l (agree_left _ _ a))) (expression_agrees k m (agree_left _ _ (agree_right _ _ a)))) (expression_agrees k q (agree_right _ _ (agree_right _ _ a)))
   expression_agrees k (assign line op (lvalue at meant index checked) e kind) a =
-      k.sees.sum _ _ _ _ (k.sees.sum _ _ _ _ refl (index_agrees k index (agree_left _ _ a))) (expression_agrees k e (agree_right _ _ a))
-  expression_agrees k (step line (lvalue at meant index checked) up before kind) a = k.sees.sum _ _ _ _ refl (index_agrees k index a)
+      k.sees.sum (k.sees.sum refl (index_agrees k index (agree_left _ _ a))) (expression_agrees k e (agree_right _ _ a))
+  expression_agrees k (step line (lvalue at meant index checked) up before kind) a = k.sees.sum refl (index_agrees k index a)
   expression_agrees k (call line callee args kind) a =
-      k.sees.sum _ _ _ _ (callee_agrees k callee args (agree_right _ _ a)) (expressions_agree k args (agree_left _ _ a))
+      k.sees.sum (callee_agrees k callee args (agree_right _ _ a)) (expressions_agree k args (agree_left _ _ a))
 
   pub index_agrees : {h : ℕ → ℕ} {r s : Rates} → AgreeCosts h r s → (i : ScopedIndex) → Agree h r.bodies s.bodies (index_calls i) → h (index_cost r i) ≡ h (index_cost s i)
   index_agrees k whole a = refl
@@ -110,7 +110,7 @@ mutual
 
   pub expressions_agree : {h : ℕ → ℕ} {r s : Rates} → AgreeCosts h r s → (es : ScopedExpressions) → Agree h r.bodies s.bodies (expressions_calls es) → h (expressions_cost r es) ≡ h (expressions_cost s es)
   expressions_agree k none a = refl
-  expressions_agree k (and e rest) a = k.sees.sum _ _ _ _ (expression_agrees k e (agree_left _ _ a)) (expressions_agree k rest (agree_right _ _ a))
+  expressions_agree k (and e rest) a = k.sees.sum (expression_agrees k e (agree_left _ _ a)) (expressions_agree k rest (agree_right _ _ a))
 
 optional_agrees : {h : ℕ → ℕ} {r s : Rates} → AgreeCosts h r s → (e : Option ScopedExpression) → Agree h r.bodies s.bodies (optional_calls e) → h (optional_cost r e) ≡ h (optional_cost s e)
 optional_agrees k None a = refl
@@ -124,13 +124,13 @@ initializer_agrees k (listed values) a = expressions_agree k values a
 declarators_agree : {h : ℕ → ℕ} {r s : Rates} → AgreeCosts h r s → (ds : List ScopedInitDeclarator) → Agree h r.bodies s.bodies (declarators_calls ds) → h (declarators_cost r ds) ≡ h (declarators_cost s ds)
 declarators_agree k [] a = refl
 declarators_agree k (d ∷ rest) a =
-    k.sees.sum _ _ _ _ (k.sees.sum _ _ _ _ (k.sees.sum _ _ _ _ refl (optional_agrees k d.length (agree_left _ _ a))) (initializer_agrees k d.first (agree_left _ _ (agree_right _ _ a)))) (declarators_agree k rest (agree_right _ _ (agree_right _ _ a)))
+    k.sees.sum (k.sees.sum (k.sees.sum refl (optional_agrees k d.length (agree_left _ _ a))) (initializer_agrees k d.first (agree_left _ _ (agree_right _ _ a)))) (declarators_agree k rest (agree_right _ _ (agree_right _ _ a)))
 
-loop_agrees : {h : ℕ → ℕ} {r s : Rates} → AgreeCosts h r s → (test body test' body' : ℕ) → h test ≡ h test' → h body ≡ h body' → h (loop_cost r test body) ≡ h (loop_cost s test' body')
-loop_agrees {h = h} {r = r} {s = s} k test body test' body' tests bodies =
-    let turn : h (turn_number + test + body) ≡ h (turn_number + test' + body') = k.sees.sum _ _ _ _ (k.sees.sum _ _ _ _ refl tests) bodies in
+loop_agrees : {h : ℕ → ℕ} {r s : Rates} → AgreeCosts h r s → {test body test' body' : ℕ} → h test ≡ h test' → h body ≡ h body' → h (loop_cost r test body) ≡ h (loop_cost s test' body')
+loop_agrees {h = h} {r = r} {s = s} k {test = test} {body = body} {test' = test'} {body' = body'} tests bodies =
+    let turn : h (turn_number + test + body) ≡ h (turn_number + test' + body') = k.sees.sum (k.sees.sum refl tests) bodies in
     let turns : h (r.turns * (turn_number + test + body)) ≡ h (s.turns * (turn_number + test' + body')) = k.sees.product r.turns _ _ turn ∙ ap (λ n. h (n * (turn_number + test' + body'))) k.turns in
-    k.sees.sum _ _ _ _ (k.sees.sum _ _ _ _ turns refl) tests
+    k.sees.sum (k.sees.sum turns refl) tests
 
 mutual
   -- the cost of a statement
@@ -140,17 +140,17 @@ mutual
   statement_agrees k (block parts) a = statements_agree k parts a
   statement_agrees k (declare of) a = declarators_agree k of.declarators a
   statement_agrees k (when line test first second) a =
-      k.sees.sum _ _ _ _ (k.sees.sum _ _ _ _ (k.sees.sum _ _ _ _ refl (expression_agrees k test (agree_left _ _ a))) (statement_agrees k first (agree_left _ _ (agree_right _ _ a)))) (branch_agrees k second (agree_right _ _ (agree_right _ _ a)))
+      k.sees.sum (k.sees.sum (k.sees.sum refl (expression_agrees k test (agree_left _ _ a))) (statement_agrees k first (agree_left _ _ (agree_right _ _ a)))) (branch_agrees k second (agree_right _ _ (agree_right _ _ a)))
   statement_agrees k (while line test body) a =
-      loop_agrees k _ _ _ _ (expression_agrees k test (agree_left _ _ a)) (statement_agrees k body (agree_right _ _ a))
+      loop_agrees k (expression_agrees k test (agree_left _ _ a)) (statement_agrees k body (agree_right _ _ a))
   statement_agrees k (do_while line body test) a =
-      loop_agrees k _ _ _ _ (expression_agrees k test (agree_right _ _ a)) (statement_agrees k body (agree_left _ _ a))
+      loop_agrees k (expression_agrees k test (agree_right _ _ a)) (statement_agrees k body (agree_left _ _ a))
   statement_agrees k (for line first test change body) a =
       let turn = agree_right (optional_calls test) (optional_calls change ++ statement_calls body) (agree_right (statement_calls first) _ a) in
-      k.sees.sum _ _ _ _ (statement_agrees k first (agree_left _ _ a)) (loop_agrees k _ _ _ _ (optional_agrees k test (agree_left _ _ (agree_right _ _ a))) (k.sees.sum _ _ _ _ (statement_agrees k body (agree_right (optional_calls change) (statement_calls body) turn)) (optional_agrees k change (agree_left (optional_calls change) (statement_calls body) turn))))
+      k.sees.sum (statement_agrees k first (agree_left _ _ a)) (loop_agrees k (optional_agrees k test (agree_left _ _ (agree_right _ _ a))) (k.sees.sum (statement_agrees k body (agree_right (optional_calls change) (statement_calls body) turn)) (optional_agrees k change (agree_left (optional_calls change) (statement_calls body) turn))))
   statement_agrees k (break line) a = refl
   statement_agrees k (continue line) a = refl
-  statement_agrees k (return line e) a = k.sees.sum _ _ _ _ refl (optional_agrees k e a)
+  statement_agrees k (return line e) a = k.sees.sum refl (optional_agrees k e a)
   statement_agrees k (label name of) a = statement_agrees k of a
 
   branch_agrees : {h : ℕ → ℕ} {r s : Rates} → AgreeCosts h r s → (b : ScopedBranch) → Agree h r.bodies s.bodies (branch_calls b) → h (branch_cost r b) ≡ h (branch_cost s b)
@@ -159,7 +159,7 @@ mutual
 
   statements_agree : {h : ℕ → ℕ} {r s : Rates} → AgreeCosts h r s → (cs : ScopedStatements) → Agree h r.bodies s.bodies (statements_calls cs) → h (statements_cost r cs) ≡ h (statements_cost s cs)
   statements_agree k nil a = refl
-  statements_agree k (cons c rest) a = k.sees.sum _ _ _ _ (statement_agrees k c (agree_left _ _ a)) (statements_agree k rest (agree_right _ _ a))
+  statements_agree k (cons c rest) a = k.sees.sum (statement_agrees k c (agree_left _ _ a)) (statements_agree k rest (agree_right _ _ a))
 
 -- ---- sites
 
@@ -193,14 +193,14 @@ mutual
   expression_sites_agree k (unary line op e kind) a = expression_sites_agree k e a
   expression_sites_agree k (cast line to e kind) a = expression_sites_agree k e a
   expression_sites_agree k (binary line op l q kind) a =
-      k.sees.sum _ _ _ _ (expression_sites_agree k l (agree_left _ _ a)) (expression_sites_agree k q (agree_right _ _ a))
+      k.sees.sum (expression_sites_agree k l (agree_left _ _ a)) (expression_sites_agree k q (agree_right _ _ a))
   expression_sites_agree k (choose line l m q kind) a =
-      k.sees.sum _ _ _ _ (k.sees.sum _ _ _ _ (expression_sites_agree k l (agree_left _ _ a)) (expression_sites_agree k m (agree_left _ _ (agree_right _ _ a)))) (expression_sites_agree k q (agree_right _ _ (agree_right _ _ a)))
+      k.sees.sum (k.sees.sum (expression_sites_agree k l (agree_left _ _ a)) (expression_sites_agree k m (agree_left _ _ (agree_right _ _ a)))) (expression_sites_agree k q (agree_right _ _ (agree_right _ _ a)))
   expression_sites_agree k (assign line op (lvalue at meant index checked) e kind) a =
-      k.sees.sum _ _ _ _ (index_sites_agree k index (agree_left _ _ a)) (expression_sites_agree k e (agree_right _ _ a))
+      k.sees.sum (index_sites_agree k index (agree_left _ _ a)) (expression_sites_agree k e (agree_right _ _ a))
   expression_sites_agree k (step line (lvalue at meant index checked) up before kind) a = index_sites_agree k index a
   expression_sites_agree k (call line callee args kind) a =
-      k.sees.sum _ _ _ _ (callee_sites_agree k callee args (agree_right _ _ a)) (expressions_sites_agree k args (agree_left _ _ a))
+      k.sees.sum (callee_sites_agree k callee args (agree_right _ _ a)) (expressions_sites_agree k args (agree_left _ _ a))
 
   pub index_sites_agree : {h : ℕ → ℕ} {r s : SiteRates} → AgreeSites h r s → (i : ScopedIndex) → Agree h r.bodies s.bodies (index_calls i) → h (index_sites r i) ≡ h (index_sites s i)
   index_sites_agree k whole a = refl
@@ -208,7 +208,7 @@ mutual
 
   pub expressions_sites_agree : {h : ℕ → ℕ} {r s : SiteRates} → AgreeSites h r s → (es : ScopedExpressions) → Agree h r.bodies s.bodies (expressions_calls es) → h (expressions_sites r es) ≡ h (expressions_sites s es)
   expressions_sites_agree k none a = refl
-  expressions_sites_agree k (and e rest) a = k.sees.sum _ _ _ _ (expression_sites_agree k e (agree_left _ _ a)) (expressions_sites_agree k rest (agree_right _ _ a))
+  expressions_sites_agree k (and e rest) a = k.sees.sum (expression_sites_agree k e (agree_left _ _ a)) (expressions_sites_agree k rest (agree_right _ _ a))
 
 optional_sites_agree : {h : ℕ → ℕ} {r s : SiteRates} → AgreeSites h r s → (e : Option ScopedExpression) → Agree h r.bodies s.bodies (optional_calls e) → h (optional_sites r e) ≡ h (optional_sites s e)
 optional_sites_agree k None a = refl
@@ -222,10 +222,10 @@ initializer_sites_agree k (listed values) a = expressions_sites_agree k values a
 declarators_sites_agree : {h : ℕ → ℕ} {r s : SiteRates} → AgreeSites h r s → (ds : List ScopedInitDeclarator) → Agree h r.bodies s.bodies (declarators_calls ds) → h (declarators_sites r ds) ≡ h (declarators_sites s ds)
 declarators_sites_agree k [] a = refl
 declarators_sites_agree k (d ∷ rest) a =
-    k.sees.sum _ _ _ _ (k.sees.sum _ _ _ _ (optional_sites_agree k d.length (agree_left _ _ a)) (initializer_sites_agree k d.first (agree_left _ _ (agree_right _ _ a)))) (declarators_sites_agree k rest (agree_right _ _ (agree_right _ _ a)))
+    k.sees.sum (k.sees.sum (optional_sites_agree k d.length (agree_left _ _ a)) (initializer_sites_agree k d.first (agree_left _ _ (agree_right _ _ a)))) (declarators_sites_agree k rest (agree_right _ _ (agree_right _ _ a)))
 
-turns_agree : {h : ℕ → ℕ} {r s : SiteRates} → AgreeSites h r s → (a b : ℕ) → h a ≡ h b → h (r.turns * a) ≡ h (s.turns * b)
-turns_agree {h = h} {r = r} {s = s} k a b e = k.sees.product r.turns a b e ∙ ap (λ n. h (n * b)) k.turns
+turns_agree : {h : ℕ → ℕ} {r s : SiteRates} → AgreeSites h r s → {a b : ℕ} → h a ≡ h b → h (r.turns * a) ≡ h (s.turns * b)
+turns_agree {h = h} {r = r} {s = s} k {a = a} {b = b} e = k.sees.product r.turns a b e ∙ ap (λ n. h (n * b)) k.turns
 
 mutual
   -- the sites of a statement
@@ -235,18 +235,18 @@ mutual
   statement_sites_agree k (block parts) a = statements_sites_agree k parts a
   statement_sites_agree k (declare of) a = declarators_sites_agree k of.declarators a
   statement_sites_agree k (when line test first second) a =
-      k.sees.sum _ _ _ _ (k.sees.sum _ _ _ _ (expression_sites_agree k test (agree_left _ _ a)) (statement_sites_agree k first (agree_left _ _ (agree_right _ _ a)))) (branch_sites_agree k second (agree_right _ _ (agree_right _ _ a)))
+      k.sees.sum (k.sees.sum (expression_sites_agree k test (agree_left _ _ a)) (statement_sites_agree k first (agree_left _ _ (agree_right _ _ a)))) (branch_sites_agree k second (agree_right _ _ (agree_right _ _ a)))
   statement_sites_agree k (while line test body) a =
       let tests = expression_sites_agree k test (agree_left _ _ a) in
-      k.sees.sum _ _ _ _ (turns_agree k _ _ (k.sees.sum _ _ _ _ tests (statement_sites_agree k body (agree_right _ _ a)))) tests
+      k.sees.sum (turns_agree k (k.sees.sum tests (statement_sites_agree k body (agree_right _ _ a)))) tests
   statement_sites_agree k (do_while line body test) a =
-      turns_agree k _ _ (k.sees.sum _ _ _ _ (statement_sites_agree k body (agree_left _ _ a)) (expression_sites_agree k test (agree_right _ _ a)))
+      turns_agree k (k.sees.sum (statement_sites_agree k body (agree_left _ _ a)) (expression_sites_agree k test (agree_right _ _ a)))
   statement_sites_agree k (for line first test change body) a =
       let tests = optional_sites_agree k test (agree_left _ _ (agree_right _ _ a)) in
       let turn = agree_right (optional_calls test) (optional_calls change ++ statement_calls body) (agree_right (statement_calls first) _ a) in
       let bodies = statement_sites_agree k body (agree_right (optional_calls change) (statement_calls body) turn) in
       let changes = optional_sites_agree k change (agree_left (optional_calls change) (statement_calls body) turn) in
-      k.sees.sum _ _ _ _ (k.sees.sum _ _ _ _ (statement_sites_agree k first (agree_left _ _ a)) (turns_agree k _ _ (k.sees.sum _ _ _ _ (k.sees.sum _ _ _ _ tests bodies) changes))) tests
+      k.sees.sum (k.sees.sum (statement_sites_agree k first (agree_left _ _ a)) (turns_agree k (k.sees.sum (k.sees.sum tests bodies) changes))) tests
   statement_sites_agree k (break line) a = refl
   statement_sites_agree k (continue line) a = refl
   statement_sites_agree k (return line e) a = optional_sites_agree k e a
@@ -258,4 +258,4 @@ mutual
 
   statements_sites_agree : {h : ℕ → ℕ} {r s : SiteRates} → AgreeSites h r s → (cs : ScopedStatements) → Agree h r.bodies s.bodies (statements_calls cs) → h (statements_sites r cs) ≡ h (statements_sites s cs)
   statements_sites_agree k nil a = refl
-  statements_sites_agree k (cons c rest) a = k.sees.sum _ _ _ _ (statement_sites_agree k c (agree_left _ _ a)) (statements_sites_agree k rest (agree_right _ _ a))
+  statements_sites_agree k (cons c rest) a = k.sees.sum (statement_sites_agree k c (agree_left _ _ a)) (statements_sites_agree k rest (agree_right _ _ a))
