@@ -104,13 +104,13 @@ success {turns} {bytes} {tree} {p} {order} {formula} {log} kept none holds is_fo
 
 -- a program that is broken
 pub failure : {turns : ℕ} {bytes : List ℕ} {tree : TranslationUnit} {p : ScopedProgram} {order : List ℕ} {kind : BreakKind} {line : ℕ} {schedule : List Step} → Admits turns 2 bytes tree p order
-    → first_choice p ≡ None → Decides p turns (Broken schedule kind line) → IsFailure (checking turns) bytes kind line schedule
-failure {turns} {bytes} {tree} {p} {order} {kind} {line} {schedule} kept none broken = within_limits kept made
+    → first_choice p ≡ None → Decides p turns (Broken schedule kind line) → line < 2 ^ 32 → IsFailure (checking turns) bytes kind line schedule
+failure {turns} {bytes} {tree} {p} {order} {kind} {line} {schedule} kept none broken word = within_limits kept made
   where
     made : (is : IsAdmitted (within turns 2) bytes) → p ≡ scoped_of is.tree → IsFailure (checking turns) bytes kind line schedule
     made is meaning =
         let here : Decides (scoped_of is.tree) turns (Broken schedule kind line) = subst (λ (q : ScopedProgram). Decides q turns (Broken schedule kind line)) meaning broken in
-        record { admitted = is; no_choice = subst (λ (q : ScopedProgram). first_choice q ≡ None) meaning none; breaks = here.0; within_rounds = omega (arith, here.1) }
+        record { admitted = is; no_choice = subst (λ (q : ScopedProgram). first_choice q ≡ None) meaning none; breaks = here.0; told_line = word; within_rounds = omega (arith, here.1) }
 
 -- one round is a number of rounds that can be told
 pub failure_printable : {p : ScopedProgram} {turns : ℕ} {kind : BreakKind} {line : ℕ} {schedule : List Step} → Decides p turns (Broken schedule kind line) → rounds_of (threads_of schedule) < 2 ^ 32

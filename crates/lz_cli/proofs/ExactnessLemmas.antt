@@ -604,16 +604,16 @@ steps_alone : (count : ℕ) → AllByRecursion IsStep (replicate count main_step
 steps_alone zero = tt
 steps_alone (suc count) = (record { thread = omega arith; choice = omega arith }, steps_alone count)
 
-failure_read : MainAlone → (bounds : Bounds) (bytes : List ℕ) (kind : BreakKind) (line : ℕ) (schedule : List Step) → bounds.rounds < 2 ^ 64 → line < 2 ^ 32 → IsFailure bounds bytes kind line schedule
+failure_read : MainAlone → (bounds : Bounds) (bytes : List ℕ) (kind : BreakKind) (line : ℕ) (schedule : List Step) → bounds.rounds < 2 ^ 64 → IsFailure bounds bytes kind line schedule
     → IsScheduleText (report (Failed kind line schedule)) schedule
-failure_read alone bounds bytes kind line schedule rounds small failure =
+failure_read alone bounds bytes kind line schedule rounds failure =
     let steps = alone (scoped_of failure.admitted.tree) bounds.unwind failure.breaks.run schedule failure.no_choice failure.breaks.broken_.is failure.breaks.follows in
-    report_read kind line schedule (omega (arith, small)) (omega (arith, rounds, failure.within_rounds))
+    report_read kind line schedule (omega (arith, failure.told_line)) (omega (arith, rounds, failure.within_rounds))
     (subst (AllByRecursion IsStep) (sym steps) (steps_alone (length schedule)))
 
-pub failure_reads : MainAlone → (call : Call) (kind : BreakKind) (line : ℕ) (schedule : List Step) → line < 2 ^ 32 → IsLawful call (Failed kind line schedule)
+pub failure_reads : MainAlone → (call : Call) (kind : BreakKind) (line : ℕ) (schedule : List Step) → IsLawful call (Failed kind line schedule)
     → IsScheduleText (report (Failed kind line schedule)) schedule
-failure_reads alone call kind line schedule small from = failure_read alone (checking from.0) from.1 kind line schedule (omega arith) small from.3
+failure_reads alone call kind line schedule from = failure_read alone (checking from.0) from.1 kind line schedule (omega arith) from.3
 
 -- a round costs no more than two
 within_a_round : {turns : ℕ} {bytes : List ℕ} (a : IsAdmitted (checking turns) bytes) → cost (scoped_of a.tree) turns 1 ≤ cost_limit
@@ -629,11 +629,11 @@ within_a_round {turns} a = least (thread_cost p.functions turns threads p.main) 
     least x y most le = omega (arith, le)
 
 pub failure_runs : OneTree → OneSchedule → OneReplay → MainAlone → (call again : Call) (turns : ℕ) (content : List ℕ) (kind : BreakKind) (line : ℕ) (schedule : List Step) (ending : Ending)
-    → IsToldCheck call turns content → length content ≤ file_limit → line < 2 ^ 32 → IsLawful call (Failed kind line schedule) → IsToldReplay again turns content (report (Failed kind line schedule))
+    → IsToldCheck call turns content → length content ≤ file_limit → IsLawful call (Failed kind line schedule) → IsToldReplay again turns content (report (Failed kind line schedule))
     → length (report (Failed kind line schedule)) ≤ schedule_limit → IsLawful again ending → IsEither (Replay (Broke kind line (length schedule))) ending
-failure_runs one one_s one_r alone call again turns content kind line schedule ending told short small lawful told_again text_short also =
+failure_runs one one_s one_r alone call again turns content kind line schedule ending told short lawful told_again text_short also =
     let failure : IsFailure (checking turns) content kind line schedule = check_verdict call turns content (Failed kind line schedule) told short (origin call (Failed kind line schedule) lawful) in
     let a = failure.admitted in
     let admitted : IsAdmitted (replaying turns) content = record { tree = a.tree; accepted = a.accepted; few_slots = a.few_slots; low_cost = within_a_round a } in
     replayed_ends one one_s one_r again turns content (report (Failed kind line schedule)) schedule (Broke kind line (length schedule)) ending told_again short text_short admitted
-    (failure_read alone (checking turns) content kind line schedule (omega arith) small failure) (failure.breaks, refl) also
+    (failure_read alone (checking turns) content kind line schedule (omega arith) failure) (failure.breaks, refl) also

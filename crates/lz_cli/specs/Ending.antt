@@ -1,5 +1,5 @@
 -- Trusted: when an ending is lawful, case by case.
-use Rattle.std.specs.Prelude.{◌≡◌, ℕ, ◌≤◌, ◌⊎◌, ◌↔◌, List, length, Option, Some, None, ⊤}
+use Rattle.std.specs.Prelude.{◌≡◌, ℕ, ◌<◌, ◌≤◌, ◌^◌, ◌⊎◌, ◌↔◌, List, length, Option, Some, None, ⊤}
 use Rattle.lz_base.specs.declared.word.BreakKind.{BreakKind}
 use Rattle.lz_outside.specs.Faults.{Rose}
 use Rattle.lz_outside.specs.Files.{FileMap, Lacks, Holds, IsLonger}
@@ -51,6 +51,7 @@ pub record IsFailure (bounds : Bounds) (bytes : List ℕ) (kind : BreakKind) (li
   pub admitted : IsAdmitted bounds bytes
   pub no_choice : first_choice (scoped_of admitted.tree) ≡ None
   pub breaks : IsBrokenAt (scoped_of admitted.tree) bounds.unwind schedule kind line
+  pub told_line : line < 2 ^ 32
   pub within_rounds : rounds_of (threads_of schedule) ≤ bounds.rounds
 
 -- the program has a choice, and this is the line of its first

@@ -90,12 +90,12 @@ pub fn endings_are_exact()
     ensures not_built_within { (call : Call) (turns : ℕ) (content : List ℕ) (line : ℕ) (ending : Ending) → IsToldCheck call turns content
         → length content ≤ file_limit → (admitted : IsAdmitted (checking turns) content) → first_choice (scoped_of admitted.tree) ≡ Some line
         → IsLawful call ending → IsEither (Ending.NotBuilt line) ending }
-    // The report of a failure, whose line is below 2^32 as in all code, is, read as a schedule text, its schedule;
-    ensures report_is_schedule { (call : Call) (kind : BreakKind) (line : ℕ) (schedule : List Step) → line < 2 ^ 32
+    // The report of a failure is, read as a schedule text, its schedule;
+    ensures report_is_schedule { (call : Call) (kind : BreakKind) (line : ℕ) (schedule : List Step)
         → IsLawful call (Ending.Failed kind line schedule) → IsScheduleText (report (Ending.Failed kind line schedule)) schedule }
     // so the file, run by its own report with as many turns, breaks the same check.
     ensures failure_replayed { (call again : Call) (turns : ℕ) (content : List ℕ) (kind : BreakKind) (line : ℕ) (schedule : List Step) (ending : Ending)
-        → IsToldCheck call turns content → length content ≤ file_limit → line < 2 ^ 32 → IsLawful call (Ending.Failed kind line schedule)
+        → IsToldCheck call turns content → length content ≤ file_limit → IsLawful call (Ending.Failed kind line schedule)
         → IsToldReplay again turns content (report (Ending.Failed kind line schedule))
         → length (report (Ending.Failed kind line schedule)) ≤ schedule_limit → IsLawful again ending
         → IsEither (Ending.Replay (Replayed.Broke kind line (length schedule))) ending }
