@@ -25,7 +25,7 @@ ghost use Rattle.lz_cli.specs.Report.{report};
 ghost use Rattle.lz_cli.specs.Recheck.{proof_limit};
 ghost use Rattle.lz_cli.specs.Exactness.{IsToldFile, IsToldCheck, IsToldRun, IsToldSource, IsToldReplay, IsToldProof, IsAnswer, IsDecided, IsDecidedWithin, IsRefusal, IsEither, IsRunAnswer};
 
-use lz_choices::no_choice_no_turn;
+use lz_choices::only_main_steps;
 use lz_model::broken_in_its_rounds;
 use lz_parse::one_program;
 use lz_replay::{one_answer, one_schedule};
@@ -149,7 +149,7 @@ pub fn endings_are_exact()
         → Lacks call.files schedule → IsLawful call ending → IsEither (Ending.ReadFault schedule) ending }
 {
     broken_in_its_rounds();
-    no_choice_no_turn();
+    only_main_steps();
     one_program();
     one_schedule();
     one_answer();

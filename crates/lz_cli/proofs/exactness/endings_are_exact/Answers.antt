@@ -53,10 +53,10 @@ pub returns-clause-not_built_within : goal.returns-clause-not_built_within
 returns-clause-not_built_within c = not_built_within c.one_program.ensures
 
 pub returns-clause-report_is_schedule : goal.returns-clause-report_is_schedule
-returns-clause-report_is_schedule c = failure_reads c.no_choice_no_turn.ensures
+returns-clause-report_is_schedule c = failure_reads c.only_main_steps.ensures
 
 pub returns-clause-failure_replayed : goal.returns-clause-failure_replayed
-returns-clause-failure_replayed c = failure_runs c.one_program.ensures c.one_schedule.ensures c.one_answer.ensures c.no_choice_no_turn.ensures
+returns-clause-failure_replayed c = failure_runs c.one_program.ensures c.one_schedule.ensures c.one_answer.ensures c.only_main_steps.ensures
 
 pub returns-clause-source_faulty : goal.returns-clause-source_faulty
 returns-clause-source_faulty c = faulty_ends c.one_program.ensures
