@@ -11,7 +11,7 @@ use Rattle.lz_model.specs.Actions.{Act, choice_of}
 use Rattle.lz_model.specs.Store.{State, blocked, is_made, waits_on, thread_at, awake, with_thread, is_halted, held_by_another, act}
 use Rattle.lz_model.specs.CodeTraces.{at}
 use Rattle.lz_model.proofs.OneRunLemmas.{read_finds, woken_is, found_is}
-use Rattle.lz_machine.specs.Threads.{Standing, going, failed, stopped, ended, Thread, MayGo, MayDo}
+use Rattle.lz_machine.specs.Threads.{Standing, going, failed, stopped, ended, spent, Thread, MayGo, MayDo}
 use Rattle.lz_machine.specs.Answers.{reads, acts, has_ended, is_cut, read_back, woken_by, HasChosen, StandsFor, HasChoice, Answers}
 use Rattle.lz_replay.specs.Stands.{Same, IsNext}
 
@@ -136,6 +136,7 @@ module _ (p : ScopedProgram) (n : ℕ) where
   stop_at whole failed = refl
   stop_at whole stopped = refl
   stop_at whole ended = refl
+  stop_at whole spent = refl
 
   -- a thread may stop at any time
   pub may_stop : (thread : Thread) → MayDo p n thread []

@@ -9,7 +9,7 @@ use Rattle.lz_model.specs.declared.actions.Action.TheVariants.{Rd}
 use Rattle.lz_model.specs.Actions.{choice_of}
 use Rattle.lz_model.specs.Store.{State}
 use Rattle.lz_model.specs.CodeTraces.{at}
-use Rattle.lz_machine.specs.Threads.{Standing, going, failed, stopped, ended, Thread, MayDo}
+use Rattle.lz_machine.specs.Threads.{Standing, going, failed, stopped, ended, spent, Thread, MayDo}
 use Rattle.lz_machine.specs.Answers.{Answer, reads, acts, has_ended, is_cut, given_word, read_back, Answers}
 use Rattle.lz_machine.specs.declared.answer.ReadBack.TheVariants as back
 use Rattle.lz_replay.specs.Stands.{Same}
@@ -30,6 +30,7 @@ given_none (going running) = refl
 given_none failed = refl
 given_none stopped = refl
 given_none ended = refl
+given_none spent = refl
 
 -- nothing that is read back changes nothing
 pub read_nothing : (thread : Thread) → read_back None thread ≡ thread
