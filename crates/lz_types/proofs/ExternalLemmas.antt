@@ -13,9 +13,13 @@ use Rattle.lz_scopes.proofs.ArgumentsLemmas.{drop_item}
 use Rattle.lz_types.specs.Faults.{at, param_rules, params_faults, external_faults, externals_faults}
 use Rattle.lz_types.specs.Parts.{is_one_at}
 use Rattle.lz_base.proofs.BoolLemmas.{first_fails, first_holds}
-use Rattle.lz_resolve.proofs.FunctionsLemmas.{read_item}
+use Rattle.std.proofs.lemmas.List.{get_or_default}
 
 -- ---- parameters
+
+-- an item that is read, and those behind it
+read_item : (ps : List Param) (i : ℕ) (d : Param) → i < length ps → drop i ps ≡ get_or ps i d ∷ drop (i + 1) ps
+read_item ps i d below = drop_item ps i (get_or ps i d) below (get_or_default ps i d (get_or ps i d) below)
 
 -- What a walk of parameters has come to at a place with some of them left.
 pub record WalkedParams (file : File) (form : Bool) (start now : Place) (all left : List Param) (noted so_far : List Fault) : Type 0 where
