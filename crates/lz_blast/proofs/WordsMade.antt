@@ -65,6 +65,10 @@ fresh_push n (suc k) =
     ap (λ (m : ℕ). record { 0 = 2 * n } ∷ (fresh_word (n + 1) k ++ record { 0 = 2 * m } ∷ [])) (let e : n + suc k ≡ n + 1 + k = omega arith in e)
     ∙ ap (λ (xs : List Lit). record { 0 = 2 * n } ∷ xs) (fresh_push (n + 1) k)
 
+-- no fresh literal so far
+pub freshens_none : (start : Circuit) → Freshens start start [] 0
+freshens_none start = record { bits_are = refl; variables = omega arith; clauses = refl }
+
 -- one more
 pub freshens_more : (start now next : Circuit) (bits : List Lit) (lit : Lit) (i : ℕ) → Freshens start now bits i → lit.0 ≡ 2 * now.variables → next.variables ≡ now.variables + 1 → next.clauses ≡ now.clauses
     → Freshens start next (bits ++ lit ∷ []) (i + 1)
