@@ -120,6 +120,9 @@ fn initialize(alloc: Global, value: u32, locals: &mut Locals) -> Result<(), Memo
 fn a_local_is_initialized(rt: HostRuntime) -> Result<(), Fail> {
     let mut locals = locals_of(rt.alloc(), &[4, 9]).ok().ok_or("memory")?;
     initialize(rt.alloc(), 6, &mut locals).ok().ok_or("memory")?;
-    assert!(rt; locals.frame.as_slice() == [4, 9, 6].as_slice(), "the third local");
+    assert!(rt;
+        locals.frame.as_slice() == [4, 9, 6].as_slice(),
+        "the third local"
+    );
     Ok(())
 }
