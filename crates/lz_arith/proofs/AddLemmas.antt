@@ -6,9 +6,9 @@ use Rattle.std.proofs.Math.Nat.{add_comm, mul_comm}
 use Rattle.std.proofs.lemmas.Nat.{mod-mul-add}
 use Rattle.lz_cnf.specs.declared.clause.Lit.{Lit}
 use Rattle.lz_gates.specs.Circuits.{Circuit, value, IsLit, AreLits, Makes, xor, choice}
-use Rattle.lz_gates.proofs.Extending.{makes_then, makes_so, makes_same}
+use Rattle.lz_gates.proofs.ExtendingLemmas.{makes_then, makes_so, makes_same}
 use Rattle.lz_arith.specs.Bits.{bit, word, AreBits}
-use Rattle.lz_arith.proofs.Words.{word_push, word_take, word_lt, pow_twice}
+use Rattle.lz_arith.proofs.WordsLemmas.{word_push, word_take, word_lt, pow_twice}
 
 -- ---- one bit
 

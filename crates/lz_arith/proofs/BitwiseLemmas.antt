@@ -9,14 +9,14 @@ use Rattle.std.proofs.lemmas.Bool.{eqb-true, eqb-false}
 use Rattle.lz_cnf.specs.declared.clause.Lit.{Lit}
 use Rattle.lz_cnf.specs.Models.{negated}
 use Rattle.lz_gates.specs.Circuits.{Circuit, value, xor, IsLit, AreLits, Makes}
-use Rattle.lz_gates.proofs.Extending.{makes_so, makes_then, makes_same}
-use Rattle.lz_gates.proofs.Gate.{value-negated}
+use Rattle.lz_gates.proofs.ExtendingLemmas.{makes_so, makes_then, makes_same}
+use Rattle.lz_gates.proofs.GateLemmas.{value-negated}
 use Rattle.lz_arith.specs.declared.bitwise.Bitwise.{Bitwise}
 use Rattle.lz_arith.specs.declared.bitwise.Bitwise.TheVariants.{And, Xor, Or}
 use Rattle.lz_arith.specs.Bits.{bit, word, AreBits}
 use Rattle.lz_arith.specs.Bitwise.{bitwise_value, bitwise_number}
-use Rattle.lz_arith.proofs.Words.{word_take, word_lt}
-use Rattle.lz_arith.proofs.Loops.{push_at, less_at}
+use Rattle.lz_arith.proofs.WordsLemmas.{word_take, word_lt}
+use Rattle.lz_arith.proofs.LoopsLemmas.{push_at, less_at}
 use Rattle.lz_arith.proofs.AddLemmas.{are_lits_more}
 
 -- neither of two literals, in the other sign

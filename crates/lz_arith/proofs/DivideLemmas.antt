@@ -7,11 +7,11 @@ use Rattle.std.proofs.lemmas.Nat.{mod-mul-add, div-mul-add}
 use Rattle.lz_cnf.specs.declared.clause.Lit.{Lit}
 use Rattle.lz_cnf.specs.Models.{variable_of, negated, variable_bound}
 use Rattle.lz_gates.specs.Circuits.{Circuit, Assignment, value, IsLit, AreLits, Satisfies, Makes}
-use Rattle.lz_gates.proofs.Extending.{makes_then, makes_so, makes_same, still}
-use Rattle.lz_gates.proofs.Gate.{value-negated, variable_of-negated}
+use Rattle.lz_gates.proofs.ExtendingLemmas.{makes_then, makes_so, makes_same, still}
+use Rattle.lz_gates.proofs.GateLemmas.{value-negated, variable_of-negated}
 use Rattle.lz_arith.specs.Bits.{bit, word, copies, negations, AreBits}
-use Rattle.lz_arith.proofs.Words.{word_push, word_lt, pow_twice, bit_le, row_more}
-use Rattle.lz_arith.proofs.Shifting.{word_front, append_in, word_copies}
+use Rattle.lz_arith.proofs.WordsLemmas.{word_push, word_lt, pow_twice, bit_le, row_more}
+use Rattle.lz_arith.proofs.ShiftingLemmas.{word_front, append_in, word_copies}
 use Rattle.lz_arith.proofs.AddLemmas.{are_lits_more}
 
 -- the opposites of literals and of one more

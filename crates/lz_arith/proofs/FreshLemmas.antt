@@ -17,7 +17,7 @@ pub record Freshens (start now : Circuit) (bits : List Lit) (i : ℕ) : Type 0 w
   pub bits_in : AreBits now i bits
   pub variables : now.variables ≡ start.variables + i
 
--- none yet
+-- no literal is fresh where nothing was added
 pub freshens_none : (start : Circuit) → Freshens start start [] 0
 freshens_none start = record {
   bits_in = record { length = refl; lits = λ k d lt. absurd (omega arith) };

@@ -6,10 +6,10 @@ use Rattle.std.proofs.lemmas.Bool.Decides.{nat_tests}
 use Rattle.lz_cnf.specs.declared.clause.Lit.{Lit}
 use Rattle.lz_cnf.specs.Models.{variable_of, negated}
 use Rattle.lz_gates.specs.Circuits.{Circuit, Assignment, value, clause_value, Agree, AreBelow, AreLits, Satisfies, Makes}
-use Rattle.lz_gates.proofs.Extending.{value_agrees, satisfies_front, satisfies_back, satisfies_append, below_append, makes_so}
-use Rattle.lz_gates.proofs.Gate.{value-negated, variable_of-negated, variable_of-positive}
-use Rattle.lz_gates.proofs.GateKinds.{gate_makes}
-use Rattle.lz_gates.proofs.Lists.{below_two}
+use Rattle.lz_gates.proofs.ExtendingLemmas.{value_agrees, satisfies_front, satisfies_back, satisfies_append, below_append, makes_so}
+use Rattle.lz_gates.proofs.GateLemmas.{value-negated, variable_of-negated, variable_of-positive}
+use Rattle.lz_gates.proofs.GateKindsLemmas.{gate_makes}
+use Rattle.lz_gates.proofs.ListsLemmas.{below_two}
 use Rattle.lz_arith.specs.Bits.{bit, word}
 
 -- each bit makes the test true

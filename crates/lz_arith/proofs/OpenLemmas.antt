@@ -6,7 +6,7 @@ use Rattle.std.proofs.lemmas.List.Elements.{All-push}
 use Rattle.lz_cnf.specs.declared.clause.Lit.{Lit}
 use Rattle.lz_cnf.specs.Models.{variable_of}
 use Rattle.lz_gates.specs.Circuits.{Circuit, Assignment, value, clause_value, IsLit, AreLits, Satisfies, Makes}
-use Rattle.lz_gates.proofs.Extending.{makes_so, makes_same, still}
+use Rattle.lz_gates.proofs.ExtendingLemmas.{makes_so, makes_same, still}
 use Rattle.lz_gates.proofs.FoldLemmas.{value-same}
 use Rattle.lz_arith.specs.Bits.{word, copies}
 use Rattle.lz_arith.specs.Open.{KeepsTest}

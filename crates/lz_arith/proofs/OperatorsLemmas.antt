@@ -6,11 +6,11 @@ use Rattle.lz_base.specs.Words.{value_bound, signed, wrapped, truth, is_true}
 use Rattle.lz_cnf.specs.declared.clause.Lit.{Lit}
 use Rattle.lz_cnf.specs.Models.{variable_of, negated}
 use Rattle.lz_gates.specs.Circuits.{Circuit, Assignment, value, IsLit, AreLits, Satisfies, Makes}
-use Rattle.lz_gates.proofs.Extending.{makes_then, makes_so, makes_same, still}
-use Rattle.lz_gates.proofs.Gate.{value-negated}
+use Rattle.lz_gates.proofs.ExtendingLemmas.{makes_then, makes_so, makes_same, still}
+use Rattle.lz_gates.proofs.GateLemmas.{value-negated}
 use Rattle.lz_arith.specs.Bits.{bit, word, copies, negations, is_negative, AreBits}
 use Rattle.lz_arith.specs.Shifts.{moved_up, moved_down}
-use Rattle.lz_arith.proofs.Shifting.{word_copies, length-copies, copies_in, word_front}
+use Rattle.lz_arith.proofs.ShiftingLemmas.{word_copies, length-copies, copies_in, word_front}
 use Rattle.lz_arith.proofs.DivideLemmas.{word_negations}
 use Rattle.lz_arith.proofs.SignsLemmas.{word_small, right_shift_number}
 

@@ -5,10 +5,10 @@ use Rattle.std.proofs.lemmas.List.{take_all}
 use Rattle.lz_cnf.specs.declared.clause.Lit.{Lit}
 use Rattle.lz_cnf.specs.Models.{variable_bound}
 use Rattle.lz_gates.specs.Circuits.{Circuit, Assignment, value, AreLits, Satisfies, Makes}
-use Rattle.lz_gates.proofs.Extending.{makes_then, makes_so, makes_same, still}
+use Rattle.lz_gates.proofs.ExtendingLemmas.{makes_then, makes_so, makes_same, still}
 use Rattle.lz_arith.specs.Bits.{bit, word, copies, AreBits}
-use Rattle.lz_arith.proofs.Words.{word_take, row_more}
-use Rattle.lz_arith.proofs.Shifting.{word_moved, word_copies}
+use Rattle.lz_arith.proofs.WordsLemmas.{word_take, row_more}
+use Rattle.lz_arith.proofs.ShiftingLemmas.{word_moved, word_copies}
 use Rattle.lz_arith.proofs.AddLemmas.{are_lits_more}
 
 -- the second summand may be taken modulo the modulus first

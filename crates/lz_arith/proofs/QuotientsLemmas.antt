@@ -6,10 +6,10 @@ use Rattle.lz_base.specs.declared.word.IntType.TheVariants.{Int, Unsigned}
 use Rattle.lz_base.specs.Words.{value_bound, sign_bound, signed, wrapped}
 use Rattle.lz_cnf.specs.declared.clause.Lit.{Lit}
 use Rattle.lz_gates.specs.Circuits.{Circuit, Assignment, value, xor, Makes}
-use Rattle.lz_gates.proofs.Extending.{makes_then, makes_so}
+use Rattle.lz_gates.proofs.ExtendingLemmas.{makes_then, makes_so}
 use Rattle.lz_arith.specs.Bits.{bit, word}
 use Rattle.lz_arith.proofs.DivideLemmas.{small_mod}
-use Rattle.lz_arith.proofs.Numbers.{negative}
+use Rattle.lz_arith.proofs.NumbersLemmas.{negative}
 use Rattle.lz_arith.proofs.SignsLemmas.{word_small, top_is, quotient_number, remainder_number}
 
 -- without sign

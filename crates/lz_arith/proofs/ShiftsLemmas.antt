@@ -8,13 +8,13 @@ use Rattle.std.proofs.lemmas.List.Elements.{All-drop}
 use Rattle.lz_cnf.specs.declared.clause.Lit.{Lit}
 use Rattle.lz_cnf.specs.Models.{variable_bound}
 use Rattle.lz_gates.specs.Circuits.{Circuit, Assignment, value, IsLit, AreLits, Satisfies, Makes}
-use Rattle.lz_gates.proofs.Extending.{makes_then, makes_so, makes_same, still}
+use Rattle.lz_gates.proofs.ExtendingLemmas.{makes_then, makes_so, makes_same, still}
 use Rattle.lz_arith.specs.Bits.{bit, word, copies, AreBits}
 use Rattle.lz_arith.specs.Shifts.{moved_up, moved_down}
-use Rattle.lz_arith.proofs.Words.{word_append, word_take, word_lt, pow_twice, row_more}
+use Rattle.lz_arith.proofs.WordsLemmas.{word_append, word_take, word_lt, pow_twice, row_more}
 use Rattle.lz_arith.proofs.AddLemmas.{are_lits_more}
-use Rattle.lz_arith.proofs.Shifting.{word_split, word_copies, length-copies, copies_in, append_in, word_moved}
-use Rattle.lz_arith.proofs.Numbers.{word_ones, barrel_step}
+use Rattle.lz_arith.proofs.ShiftingLemmas.{word_split, word_copies, length-copies, copies_in, append_in, word_moved}
+use Rattle.lz_arith.proofs.NumbersLemmas.{word_ones, barrel_step}
 use Rattle.lz_arith.proofs.DivideLemmas.{small_mod}
 
 -- ---- down by a fixed number of places

@@ -12,14 +12,14 @@ use Rattle.lz_base.specs.Words.{value_bound, sign_bound, signed, wrapped}
 use Rattle.lz_cnf.specs.declared.clause.Lit.{Lit}
 use Rattle.lz_cnf.specs.Models.{negated}
 use Rattle.lz_gates.specs.Circuits.{Circuit, Assignment, value, xor, Makes}
-use Rattle.lz_gates.proofs.Extending.{makes_so}
-use Rattle.lz_gates.proofs.Gate.{value-negated}
+use Rattle.lz_gates.proofs.ExtendingLemmas.{makes_so}
+use Rattle.lz_gates.proofs.GateLemmas.{value-negated}
 use Rattle.lz_arith.specs.Bits.{bit, word, top_flipped, is_negative}
 use Rattle.lz_arith.specs.Shifts.{moved_down}
-use Rattle.lz_arith.proofs.Words.{word_take, word_lt}
-use Rattle.lz_arith.proofs.Loops.{less_at}
+use Rattle.lz_arith.proofs.WordsLemmas.{word_take, word_lt}
+use Rattle.lz_arith.proofs.LoopsLemmas.{less_at}
 use Rattle.lz_arith.proofs.DivideLemmas.{small_mod}
-use Rattle.lz_arith.proofs.Numbers.{flipped, word_flipped, signed_by, signed_order, signed_by_size, negative, size, size_is, with_sign, quotient_by_sizes, remainder_by_sizes}
+use Rattle.lz_arith.proofs.NumbersLemmas.{flipped, word_flipped, signed_by, signed_order, signed_by_size, negative, size, size_is, with_sign, quotient_by_sizes, remainder_by_sizes}
 
 -- a word of 32 bits
 pub word_small : (a : Assignment) (xs : List Lit) → length xs ≡ 32 → word a xs < value_bound

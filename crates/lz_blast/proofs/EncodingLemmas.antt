@@ -6,8 +6,8 @@ use Rattle.std.proofs.lemmas.Bool.{eqb-true, eqb-false, or_left}
 use Rattle.std.proofs.Math.Bool.{or-false}
 use Rattle.lz_cnf.specs.declared.clause.Lit.{Lit}
 use Rattle.lz_gates.specs.Circuits.{Circuit, Assignment, value, clause_value, Satisfies, Agree, AreLits, IsCircuit, Extends, first_clauses}
-use Rattle.lz_gates.proofs.Extending.{value_agrees, satisfies_agrees, satisfies_back, still, agree_refl, agree_trans, each_model_once}
-use Rattle.lz_gates.proofs.Gate.{value-positive, put, put_same, put_below}
+use Rattle.lz_gates.proofs.ExtendingLemmas.{value_agrees, satisfies_agrees, satisfies_back, still, agree_refl, agree_trans, each_model_once}
+use Rattle.lz_gates.proofs.GateLemmas.{value-positive, put, put_same, put_below}
 use Rattle.lz_arith.specs.Bits.{bit, word, AreBits}
 use Rattle.lz_arith.proofs.AddLemmas.{are_lits_more}
 use Rattle.lz_blast.specs.Encoding.{words, fresh_word, input_at, Reads, AreInputs, Encodes}

@@ -9,7 +9,7 @@ use Rattle.lz_cnf.specs.declared.clause.Cnf.{Cnf}
 use Rattle.lz_cnf.specs.Models.{IsModel}
 use Rattle.lz_gates.specs.Circuits.{Circuit, Assignment, value, clause_value, Satisfies, Agree, AreBelow, IsCircuit, Makes}
 use Rattle.lz_gates.specs.Values.{assigned, listed}
-use Rattle.lz_gates.proofs.Extending.{satisfies_front, satisfies_back, satisfies_append, still, each_model_once, makes_so}
+use Rattle.lz_gates.proofs.ExtendingLemmas.{satisfies_front, satisfies_back, satisfies_append, still, each_model_once, makes_so}
 use Rattle.lz_gates.proofs.ValuesLemmas.{model_satisfies, satisfies_model, listed_at, read_value}
 use Rattle.lz_arith.specs.Bits.{word}
 use Rattle.lz_arith.proofs.AddLemmas.{are_lits_more}

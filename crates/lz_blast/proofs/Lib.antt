@@ -1,7 +1,7 @@
 pub mod EncodingLemmas
 pub mod StepsLemmas
 pub mod CountsLemmas
-pub mod WordsMade
+pub mod WordsMadeLemmas
 pub mod NodeLemmas
 pub mod FormulasLemmas
 pub mod TurnsLemmas

@@ -7,7 +7,7 @@ use Rattle.lz_base.specs.declared.operator.Binary.{Binary}
 use Rattle.lz_base.specs.Words.{unary_value, binary_value, is_true}
 use Rattle.lz_cnf.specs.declared.clause.Lit.{Lit}
 use Rattle.lz_gates.specs.Circuits.{Circuit, Assignment, value, Makes}
-use Rattle.lz_gates.proofs.Extending.{makes_so, makes_then}
+use Rattle.lz_gates.proofs.ExtendingLemmas.{makes_so, makes_then}
 use Rattle.lz_arith.specs.Bits.{word, AreBits}
 use Rattle.lz_arith.specs.Sizes.{unary_variables, unary_clauses, binary_variables, binary_clauses}
 use Rattle.lz_ssa.specs.declared.node.Node.TheVariants as nodes

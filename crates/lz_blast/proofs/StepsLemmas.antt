@@ -7,7 +7,7 @@ use Rattle.std.proofs.lemmas.List.Elements.{All-push}
 use Rattle.lz_base.specs.declared.word.IntType.{IntType}
 use Rattle.lz_cnf.specs.declared.clause.Lit.{Lit}
 use Rattle.lz_gates.specs.Circuits.{Circuit, Assignment, Satisfies, AreBelow, IsCircuit, Extends, first_clauses}
-use Rattle.lz_gates.proofs.Extending.{extends_same, is_circuit_still, is_circuit_first, below_more}
+use Rattle.lz_gates.proofs.ExtendingLemmas.{extends_same, is_circuit_still, is_circuit_first, below_more}
 use Rattle.lz_arith.specs.Bits.{word, AreBits}
 use Rattle.lz_arith.proofs.AddLemmas.{are_lits_more}
 use Rattle.lz_ssa.specs.declared.node.Node.{Node}

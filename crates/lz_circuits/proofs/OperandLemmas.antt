@@ -13,7 +13,7 @@ pub record Brings (start now : Circuit) (bits : List Lit) (i : ℕ) : Type 0 whe
   pub more : start.variables ≤ now.variables
   pub most : now.variables ≤ start.variables + i
 
--- none yet
+-- at the start
 pub brings_none : (start : Circuit) → Brings start start [] 0
 brings_none start = record {
   bits_in = record { length = refl; lits = λ k d lt. absurd (omega arith) };

@@ -1,8 +1,9 @@
 -- Trusted: which words of a command line name files, and what for.
-use Rattle.std.specs.Prelude.{◌≡◌, ◌⊎◌, ℕ, ◌^◌, codes, Bool, true, false, ◌==◌, ◌&&◌, nat_lt, List, [], ◌∷◌, length, Option, Some, None}
+use Rattle.std.specs.Prelude.{◌≡◌, ◌⊎◌, ℕ, ◌^◌, codes, Bool, true, false, ◌==◌, ◌&&◌, nat_lt, nat_le, List, [], ◌∷◌, length, Option, Some, None}
 use Rattle.std.specs.List.{list_all}
 use Rattle.std.specs.Char.{is_ascii_digit}
 use Rattle.std.specs.Str.Parse.{digits_value}
+use Rattle.lz_cli.specs.Limits.{default_unwind, greatest_unwind}
 
 -- the word begins with `-` (45)
 abbrev pub begins_with_dash : List ℕ → Bool
@@ -31,10 +32,10 @@ is_number word = nat_lt 0 (length word) && (nat_lt (length word) 21 && list_all 
 abbrev pub number_of : List ℕ → Option ℕ
 number_of word = some_where (is_number word && nat_lt (digits_value 10 word) (2 ^ 64)) (digits_value 10 word)
 
--- a number from 1 to 100
+-- a number of turns that a word may say
 abbrev pub in_range : Option ℕ → Option ℕ
 in_range None = None
-in_range (Some number) = some_where (nat_lt 0 number && nat_lt number 101) number
+in_range (Some number) = some_where (nat_lt 0 number && nat_le number greatest_unwind) number
 
 -- the number of turns that a word writes, if it writes one
 abbrev pub turns_of : List ℕ → Option ℕ
@@ -47,9 +48,9 @@ abbrev pub IsBoundedName : List (List ℕ) → ℕ → List ℕ → Type 0
 IsBoundedName words turns name =
     (word : List ℕ) × (words ≡ codes "--unwind" ∷ word ∷ name ∷ []) × (turns_of word ≡ Some turns) × (begins_with_dash name ≡ false)
 
--- the words name a file whose program is decided, and so many turns: 2 where no word says it
+-- the words name a file whose program is decided, and so many turns: the default where no word says it
 abbrev pub IsCheckName : List (List ℕ) → ℕ → List ℕ → Type 0
-IsCheckName words turns name = (IsFileName words name × (turns ≡ 2)) ⊎ IsBoundedName words turns name
+IsCheckName words turns name = (IsFileName words name × (turns ≡ default_unwind)) ⊎ IsBoundedName words turns name
 
 -- ---- a file whose program is run by a schedule
 
@@ -65,9 +66,9 @@ IsBoundedReplay words turns schedule name =
     (word : List ℕ) × (words ≡ codes "--mode" ∷ codes "replay" ∷ codes "--unwind" ∷ word ∷ codes "--schedule" ∷ schedule ∷ name ∷ [])
     × (turns_of word ≡ Some turns) × (begins_with_dash schedule ≡ false) × (begins_with_dash name ≡ false)
 
--- the words name a schedule, a file whose program is run by it, and so many turns: 2 where no word says it
+-- the words name a schedule, a file whose program is run by it, and so many turns: the default where no word says it
 abbrev pub IsReplayName : List (List ℕ) → ℕ → List ℕ → List ℕ → Type 0
-IsReplayName words turns schedule name = (IsPlainReplay words schedule name × (turns ≡ 2)) ⊎ IsBoundedReplay words turns schedule name
+IsReplayName words turns schedule name = (IsPlainReplay words schedule name × (turns ≡ default_unwind)) ⊎ IsBoundedReplay words turns schedule name
 
 -- ---- files that are read first
 

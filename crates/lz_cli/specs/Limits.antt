@@ -9,21 +9,41 @@ pub record Bounds : Type 0 where
   pub rounds : ℕ
   pub conflicts : ℕ
 
--- where no word says another
-abbrev pub defaults : Bounds
-defaults = record { unwind = 2; rounds = 2; conflicts = 100000 }
+-- the turns where no word says another number
+abbrev pub default_unwind : ℕ
+default_unwind = 2
+
+-- the rounds of a decision
+abbrev pub default_rounds : ℕ
+default_rounds = 2
+
+-- the rounds with which the cost of a replay is taken
+abbrev pub replay_rounds : ℕ
+replay_rounds = 1
+
+-- the most conflicts that a solver may spend
+abbrev pub conflict_limit : ℕ
+conflict_limit = 100000
+
+-- the greatest number of turns that a word may say
+abbrev pub greatest_unwind : ℕ
+greatest_unwind = 100
 
 -- with so many turns and rounds
 abbrev pub within : ℕ → ℕ → Bounds
-within turns rounds = record { unwind = turns; rounds = rounds; conflicts = 100000 }
+within turns rounds = record { unwind = turns; rounds = rounds; conflicts = conflict_limit }
+
+-- where no word says another
+abbrev pub defaults : Bounds
+defaults = within default_unwind default_rounds
 
 -- where a word says how many turns
 abbrev pub checking : ℕ → Bounds
-checking turns = within turns 2
+checking turns = within turns default_rounds
 
--- those of a replay, whose cost is taken with one round
+-- those of a replay
 abbrev pub replaying : ℕ → Bounds
-replaying turns = within turns 1
+replaying turns = within turns replay_rounds
 
 -- the most threads that a program may create within its bounds
 abbrev pub slot_limit : ℕ

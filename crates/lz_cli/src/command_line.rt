@@ -6,7 +6,7 @@ ghost use Rattle.std.specs.Char.{is_ascii_digit};
 ghost use Rattle.lz_cli.specs.CommandLine as spec;
 ghost use Rattle.lz_cli.specs.CommandLine.{begins_with_dash, IsFileName, IsProofName, IsBoundedName, IsCheckName, IsPlainReplay, IsBoundedReplay, IsReplayName, turns_of};
 
-use crate::limits::DEFAULT_UNWIND;
+use crate::limits::{DEFAULT_UNWIND, GREATEST_UNWIND};
 use lz_base::{Name, Sequence};
 
 /// The words of a command line after the program's name.
@@ -227,7 +227,7 @@ fn in_range(number: Option<u64>) -> Option<u32>
     ensures { result ≡ spec.in_range number }
 {
     let number = number?;
-    if number > 0 && number < 101 {
+    if number > 0 && number <= GREATEST_UNWIND {
         Some(number as u32)
     } else {
         None

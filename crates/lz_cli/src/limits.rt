@@ -5,6 +5,9 @@ pub use lz_base::COST_LIMIT;
 /// The turns that a loop may take each time that it is entered, where no word says it.
 pub const DEFAULT_UNWIND: u32 = 2;
 
+/// The greatest number of turns that a word may say.
+pub const GREATEST_UNWIND: u64 = 100;
+
 /// The rounds that a schedule may take, where no word says it.
 pub const DEFAULT_ROUNDS: u32 = 2;
 

@@ -39,11 +39,6 @@ is_named (call line n args) = true
 is_named (step line at n i up false) = true
 is_named e = false
 
--- a token that is one punctuator is no other
-other_mark : (p q : Punct) (c : Token) → is_mark p c ≡ true → ((k : TokenKind) → k ≡ kinds.Punct p → is_mark q (token_of k) ≡ false) → is_mark q c ≡ false
-unfolding is_mark token_of
-other_mark p q c h differ = differ c.kind (is_mark_is p c h)
-
 paren_no_bracket : (c : Token) → is_mark marks.OpenParen c ≡ true → is_mark marks.OpenBracket c ≡ false
 unfolding is_mark same_mark
 paren_no_bracket c h = rw (is_mark_is marks.OpenParen c h) refl

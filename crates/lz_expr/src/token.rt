@@ -12,6 +12,7 @@ use crate::opening::{Opening, opened_by};
 use crate::refusal::Refusal;
 use lz_tree::{Binary, Expr, Keyword, Punct, Token, TokenKind, Unary};
 
+/// Whether the token is this mark.
 #[tactic(auto, unfolding(lz_tree::specs::Languages::is_mark, lz_tree::specs::Languages::same_mark))]
 pub fn is_mark(token: Token, wanted: Punct) -> bool
     ensures { result ≡ is_mark wanted token }
@@ -22,6 +23,7 @@ pub fn is_mark(token: Token, wanted: Punct) -> bool
     }
 }
 
+/// Whether the token is this keyword.
 #[tactic(auto, unfolding(lz_tree::specs::Languages::is_key, lz_tree::specs::Languages::same_key))]
 pub fn is_key(token: Token, wanted: Keyword) -> bool
     ensures { result ≡ is_key wanted token }

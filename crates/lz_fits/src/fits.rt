@@ -5,13 +5,11 @@ ghost use Rattle.lz_stations.specs.StatementFits.{IsFitStatement};
 ghost use Rattle.lz_model.specs.CodeTraces as model;
 ghost use Rattle.lz_fits.specs.Fitting as spec;
 
+use lz_base::VALUE_BOUND;
 use lz_tree::{
     Object, Scoped, ScopedDeclarator, ScopedExpr, ScopedFirst, ScopedFunction, ScopedObjects,
     ScopedStmt, ScopedTarget,
 };
-
-/// One more than the greatest word.
-const WORDS: u64 = 4294967296;
 
 /// Whether both hold.
 fn both(a: bool, b: bool) -> bool
@@ -54,7 +52,7 @@ fn has_numbers(object: Object) -> bool
     ensures { result ≡ spec.has_numbers object }
 {
     let end = first_of(object) as u64 + len_of(object) as u64;
-    !(WORDS < end)
+    !(VALUE_BOUND < end)
 }
 
 /// Whether the index of a target fits.
@@ -87,7 +85,7 @@ fn expression_fits(e: &ScopedExpr) -> bool
     ensures { result ≡ spec.fits (scoped_expression e.now) }
 {
     match e {
-        ScopedExpr::Constant { value, .. } => *value < WORDS,
+        ScopedExpr::Constant { value, .. } => *value < VALUE_BOUND,
         ScopedExpr::Null { .. } | ScopedExpr::Text { .. } => true,
         ScopedExpr::Object { target, .. } => index_fits(target),
         ScopedExpr::Address { target, .. } => index_fits(target),

@@ -9,8 +9,8 @@ use Rattle.lz_cnf.specs.declared.clause.Lit.{Lit}
 use Rattle.lz_cnf.specs.Models.{variable_of}
 use Rattle.lz_gates.specs.Circuits.{Circuit, Assignment, Satisfies, Agree, AreBelow, Extends, first_clauses, value, clause_value}
 use Rattle.lz_gates.specs.Freedom.{AgreeOn, AreVariables, IsFree}
-use Rattle.lz_gates.proofs.Gate.{value-positive, put, put_same, put_below, agree_one}
-use Rattle.lz_gates.proofs.Extending.{satisfies_agrees, satisfies_front, satisfies_back, satisfies_append, below_append, below_more}
+use Rattle.lz_gates.proofs.GateLemmas.{value-positive, put, put_same, put_below, agree_one}
+use Rattle.lz_gates.proofs.ExtendingLemmas.{satisfies_agrees, satisfies_front, satisfies_back, satisfies_append, below_append, below_more}
 
 -- variables of a circuit are variables of a larger one
 variables_more : (old new : Circuit) (xs : List ℕ) → old.variables ≤ new.variables → AreVariables old xs → AreVariables new xs

@@ -38,9 +38,6 @@ tall_statement _ = omega arith
 semicolon_row : Row (showing (mark_shown marks.Semicolon)) (mark marks.Semicolon) (λ _ _. false)
 semicolon_row = row_one (mark_shown marks.Semicolon) (the_mark marks.Semicolon) _ (the_mark_shows marks.Semicolon)
 
-not_same : (a b : ℕ) → a ≡ b → a < b → ⊥
-not_same a b e h = omega arith
-
 module _ (h : ℕ) (inner : Reader Token Statement) where
   -- ---- `;`, `break ;` and `continue ;`
 

@@ -9,7 +9,7 @@ ghost use Rattle.lz_machine.specs.Starts.{answer_of, word_of, IsWordAnswer};
 
 use crate::running::Running;
 use crate::turn::Turned;
-use lz_base::{Memory, Value};
+use lz_base::{Memory, VALUE_BOUND, Value};
 use lz_model::Action;
 use lz_stations::Pause;
 
@@ -57,7 +57,7 @@ pub struct Answered {
 fn word(value: u64) -> u32
     ensures { result ≡ value % value_bound }
 {
-    (value % 4294967296) as u32
+    (value % VALUE_BOUND) as u32
 }
 
 /// The thread that a signal wakes by its choice.

@@ -1,2 +1,2 @@
-pub mod InSlots
-pub mod Listings
+pub mod InSlotsLemmas
+pub mod ListingsLemmas

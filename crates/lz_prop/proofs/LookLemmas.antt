@@ -23,15 +23,12 @@ use Rattle.lz_prop.specs.Further.{IsFurther}
 use Rattle.lz_prop.proofs.LitLemmas.{Contains-map, Contains-from_map, Contains-filter, Contains-from_filter}
 use Rattle.lz_prop.proofs.OpenLemmas.{not_both}
 use Rattle.lz_prop.proofs.StoreLemmas.{length-cut}
-use Rattle.lz_prop.proofs.ScanLemmas.{marked_false, unmarked, others_marked}
+use Rattle.lz_prop.proofs.ScanLemmas.{unmarked, others_marked}
 use Rattle.lz_prop.proofs.WatchersLemmas.{guards_count}
 use Rattle.lz_prop.proofs.GuardLemmas.{guards_moved, guards_satisfied, open_satisfied, last_guards, are_watched}
 use Rattle.lz_prop.proofs.KeptLemmas.{order_is, kept_consistent, front_at, at_start}
 
 -- ---- what is left of a clause
-
-is_false : (t : Inner) (lit : Lit) → IsKept t → IsMarkedFalse t.table.truths.items lit → IsFalseLit t.table.order.items lit
-is_false t lit kept h = marked_false t.variables t.table.truths.items t.table.levels.items t.table.reasons.items t.table.order.items lit kept.table h
 
 pub not_false : (t : Inner) (lit : Lit) → IsKept t → (IsMarkedFalse t.table.truths.items lit → ⊥) → IsFalseLit t.table.order.items lit → ⊥
 not_false t lit kept off h = unmarked t.variables t.table.truths.items t.table.levels.items t.table.reasons.items t.table.order.items lit kept.table off h

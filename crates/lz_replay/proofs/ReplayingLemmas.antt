@@ -1,5 +1,5 @@
 -- One step of a replay keeps its state, breaks, or shows that no run has it.
-use Rattle.std.proofs.Common.{◌≡◌, ◌≢◌, ℕ, zero, suc, ◌+◌, ◌<◌, ◌≤◌, ◌⊎◌, inl, inr, Bool, true, false, eqb, ltb, cond, List, [], ◌∷◌, ◌++◌, length, take, get_or, Option, Some, None, refl, sym, ◌∙◌, ap, subst, arith}
+use Rattle.std.proofs.Common.{◌≡◌, ℕ, zero, suc, ◌+◌, ◌<◌, ◌≤◌, Bool, true, false, eqb, ltb, cond, List, [], ◌∷◌, ◌++◌, length, take, get_or, Option, Some, None, refl, sym, ◌∙◌, ap, subst, arith}
 use Rattle.std.proofs.lemmas.Bool.{eqb-true, eqb-false}
 use Rattle.std.proofs.lemmas.Bool.Decides.{nat_tests}
 use Rattle.std.proofs.lemmas.List.{length-append, take_more}
@@ -8,7 +8,7 @@ use Rattle.lz_tree.specs.ScopedTrees.{ScopedProgram}
 use Rattle.lz_model.specs.declared.actions.Action.{Action}
 use Rattle.lz_model.specs.declared.actions.Action.TheVariants.{Loc, Input, Check, Assume, Rd, Wr, Reset, Lock, Unlock, Park, Wake, Signal, Broadcast, Create, Join, HoldOn, HoldOff, End}
 use Rattle.lz_model.specs.declared.schedule.Step.{Step}
-use Rattle.lz_model.specs.Actions.{Act, Start, started_by}
+use Rattle.lz_model.specs.Actions.{Start, started_by}
 use Rattle.lz_model.specs.Store.{State, Acted, went, blocked, broke, act}
 use Rattle.lz_model.specs.CodeTraces.{at}
 use Rattle.lz_model.specs.Programs.{process_of}
@@ -44,16 +44,6 @@ pub broke_there : (r : Acted) (kind : BreakKind) → answer_of r ≡ answers.Bro
 broke_there (went state) kind e = absurd cc
 broke_there blocked kind e = absurd cc
 broke_there (broke other) kind e = let same : other ≡ kind = cc in ap (λ (k : BreakKind). broke k) same
-
-same_same : (may : List Act → Type 0) → Same may may
-same_same may = record { there = λ acts h. h; back = λ acts h. h }
-
-here_or_not : (u t : ℕ) → (u ≡ t) ⊎ (u ≢ t)
-here_or_not u t = by (eqb u t) refl
-  where
-    by : (c : Bool) → eqb u t ≡ c → (u ≡ t) ⊎ (u ≢ t)
-    by true h = inl (eqb-true u t h)
-    by false h = inr (eqb-false u t h)
 
 -- the last of a list that is one longer
 last_is : (xs : List Held) (x : Held) (k : ℕ) → k ≡ length xs → get_or (xs ++ x ∷ []) k nobody ≡ x

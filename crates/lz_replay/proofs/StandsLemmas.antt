@@ -1,7 +1,7 @@
 -- One step of a replay: the only run of the steps so far goes on by one event, breaks there, or no run has the step.
-use Rattle.std.proofs.Common.{◌≡◌, ◌≢◌, ℕ, zero, suc, ◌+◌, ◌<◌, ◌≤◌, ◌⊎◌, inl, inr, Bool, true, false, ◌&&◌, ◌||◌, eqb, ltb, cond, List, [], ◌∷◌, ◌++◌, length, Option, Some, None, refl, sym, ◌∙◌, ap, subst, append_assoc, arith}
+use Rattle.std.proofs.Common.{◌≡◌, ◌≢◌, ℕ, zero, suc, ◌+◌, ◌<◌, ◌≤◌, inl, inr, Bool, true, false, ◌&&◌, ◌||◌, eqb, ltb, cond, List, [], ◌∷◌, ◌++◌, length, Option, Some, None, refl, sym, ◌∙◌, ap, subst, append_assoc, arith}
 use Rattle.std.proofs.lemmas.List.{append-nil, length-append}
-use Rattle.std.proofs.lemmas.Bool.{eqb-true, eqb-false}
+use Rattle.std.proofs.lemmas.Bool.{cases_eq, eqb-true, eqb-false}
 use Rattle.std.proofs.lemmas.Bool.Decides.{nat_tests}
 use Rattle.lz_base.specs.declared.word.BreakKind.{BreakKind}
 use Rattle.lz_model.specs.declared.actions.Action.{Action}
@@ -51,13 +51,6 @@ chosen_seen a c e true h = absurd (let z : Some c ≡ None = sym e ∙ no_choice
 pub schedule-append : (xs ys : List Event) → schedule_of (xs ++ ys) ≡ schedule_of xs ++ schedule_of ys
 schedule-append [] ys = refl
 schedule-append (e ∷ xs) ys = ap (λ (steps : List Step). steps_of e ++ steps) (schedule-append xs ys) ∙ sym (append_assoc (steps_of e) (schedule_of xs) (schedule_of ys))
-
-here_or_not : (u t : ℕ) → (u ≡ t) ⊎ (u ≢ t)
-here_or_not u t = by (eqb u t) refl
-  where
-    by : (c : Bool) → eqb u t ≡ c → (u ≡ t) ⊎ (u ≢ t)
-    by true h = inl (eqb-true u t h)
-    by false h = inr (eqb-false u t h)
 
 -- one step, of one event that is not Loc
 one_event : (run : List Event) (step : Step) → NoLoc run → schedule_of run ≡ step ∷ [] → (act : Act) × (run ≡ event_of step.thread act ∷ []) × (choice_of act.action ≡ Some step.choice)
@@ -313,7 +306,7 @@ module _ (process : Process) (open_ : IsOpen process) (idle : IsIdle process) wh
 
       more_parts : (u : ℕ) → MayDoIn process more u (part u more)
       unfolding more
-      more_parts u = elim (here_or_not u step.thread) [
+      more_parts u = elim (cases_eq u step.thread) [
         | inl e ↦ subst (λ (t : ℕ). MayDoIn process more t (part t more)) (sym e) own
         | inr other ↦ by_made u other (ltb u (length s.threads)) refl
       ]
@@ -460,7 +453,7 @@ module _ (process : Process) (open_ : IsOpen process) (idle : IsIdle process) wh
               subst (λ (x : ℕ). Same (MayFollow process more x) (after_may x)) (sym here) (new_thread start starts found.0)
 
           rests : (u : ℕ) → u < length after.threads → Same (MayFollow process more u) (after_may u)
-          rests u made = elim (here_or_not u step.thread) [
+          rests u made = elim (cases_eq u step.thread) [
             | inl e ↦ subst (λ (t : ℕ). Same (MayFollow process more t) (after_may t)) (sym e) own
             | inr other ↦ by_made u other made (ltb u (length s.threads)) refl
           ]

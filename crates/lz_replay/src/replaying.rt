@@ -27,12 +27,15 @@ pub enum Stepped {
     Broke { kind: BreakKind, line: u32 },
 }
 
+/// The greatest number of a thread: no program has more slots.
+const LAST_THREAD: u32 = 16;
+
 /// Whether an action creates no thread past the last that there is room for.
 fn is_within(action: &Action) -> bool
     ensures { IsTrue result → IsWithin action.now }
 {
     match *action {
-        Action::Create { thread, .. } => thread <= 16,
+        Action::Create { thread, .. } => thread <= LAST_THREAD,
         _ => true,
     }
 }

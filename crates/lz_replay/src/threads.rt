@@ -6,15 +6,12 @@ ghost use Rattle.lz_machine.specs.Starts.{IsRunnable, IsThreadOf, word_of, answe
 ghost use Rattle.lz_replay.specs.Taking as spec;
 ghost use Rattle.lz_replay.specs.Taking.{IsTaken, IsWord, IsWordTaken, IsAdded, HasMade};
 
-use lz_base::Memory;
+use lz_base::{Memory, VALUE_BOUND};
 use lz_machine::{Next, ReadBack, Thread};
 use lz_model::Action;
 use lz_store::Store;
 use lz_tree::Scoped;
 use std::alloc::Global;
-
-/// How many words there are.
-const WORDS: u64 = 4294967296;
 
 /// What is kept of a thread: where it stands, and what its last read found.
 #[derive(Drop)]
@@ -75,7 +72,7 @@ fn acted(action: Action, line: u32, choice: u64) -> Option<Taken>
 fn found(cell: u32, line: u32, choice: u64, value: u64) -> Option<Taken>
     ensures { result ≡ spec.found cell line choice value }
 {
-    if choice == 0 && value < WORDS {
+    if choice == 0 && value < VALUE_BOUND {
         Some(Taken {
             action: Action::Rd { cell, value },
             line,

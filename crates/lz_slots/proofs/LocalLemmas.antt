@@ -61,9 +61,6 @@ same_sum a b c d left right = omega arith
 one_more : (s threads n : ℕ) → s ≡ saturated n → threads ≡ saturated (s + 1) → saturated threads ≡ saturated (n + 1)
 one_more s threads n is_s is_threads = omega arith
 
-twice : (a b c : ℕ) → a ≡ saturated b → saturated b ≡ saturated c → a ≡ saturated c
-twice a b c is same = is ∙ same
-
 in_a_thread : (a b : ℕ) → a ≡ saturated b → saturated (thread_number + a) ≡ saturated (thread_number + b)
 in_a_thread a b is = omega arith
 

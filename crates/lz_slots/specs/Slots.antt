@@ -1,5 +1,6 @@
--- Trusted: the slots of a program: how many calls of `pthread_create` its `main` comes to where both ways of each test
--- count, a loop counts its parts once for each of so many turns, and a call of a function counts that function's body.
+-- Trusted: the slots of a program, which are the threads that it can create.
+-- They are the calls of `pthread_create` that its `main` comes to where both ways of each test count, a loop counts its
+-- parts once for each of so many turns, and a call of a function counts that function's body.
 use Rattle.std.specs.Prelude.{ℕ, ◌+◌, ◌*◌, List, [], ◌∷◌, length, Option, Some, None}
 use Rattle.lz_tree.specs.declared.scoped.Object.{Object}
 use Rattle.lz_tree.specs.declared.scoped.Object.TheVariants.{Local, Cell, Mutex, Cond, Handle, Routine, Known}

@@ -194,9 +194,6 @@ get_or_in_map f [] i d e lt = absurd (omega (arith, lt))
 get_or_in_map f (x ∷ xs) zero d e lt = refl
 get_or_in_map f (x ∷ xs) (suc i) d e lt = get_or_in_map f xs i d e (omega arith)
 
-clause_of : LogStep → List Lit
-clause_of step = step.clause
-
 -- a log of new steps that are by their hints and not empty has fewer steps than there are sets
 pub steps_fewer : (formula : Cnf) (log : List LogStep) → AreByHints formula [] log
     → ((i : ℕ) (d : LogStep) → i < length log → IsNewStep formula (take i log) (get_or log i d))

@@ -1,10 +1,10 @@
-pub mod Loops
+pub mod LoopsLemmas
 pub mod EvaluateLemmas
 pub mod ValueLemmas
 pub mod DraftLemmas
 pub mod DecodeLemmas
 pub mod ExpressionLemmas
-pub mod StatementLoop
+pub mod StatementLoopLemmas
 pub mod WriteLemmas
 pub mod StatementLemmas
 pub mod AssignmentLemmas

@@ -15,7 +15,7 @@ use std::marker::Model;
 pub enum Acted {
     /// It went, and the state is what it led to.
     Went,
-    /// It is blocked: its thread can't go on so for now, and the state is as before.
+    /// It is blocked: its thread can't go on so in this state, which is as before.
     Blocked,
     /// It breaks a check of this kind; the state is as before.
     Broke { kind: BreakKind },

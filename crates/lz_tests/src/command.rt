@@ -613,6 +613,7 @@ pub fn compare(rt: &impl Abort, told: &Told, report: &str, status: u8, reason: &
     assert_eq!(rt; has_proof(&told.ended), status == 0, "{reason}");
 }
 
+/// Each row, told by its reason where it fails.
 pub fn compare_rows(rt: &impl Abort, alloc: Global, rows: &[Row]) -> Result<(), Fail> {
     for (text, report, status, reason) in rows {
         let told = call(alloc, &["a.c"], text.as_bytes(), AMPLE)

@@ -160,9 +160,6 @@ arguments_count (assign line op to value kind) = omega arith
 arguments_count (step line of up before kind) = omega arith
 arguments_count (call line callee args kind) = let low = count_below args in omega (arith, low)
 
-grows : (k : ℕ) → most_calls k ≤ most_calls (suc k)
-grows k = let low = mul-le 1 (suc (most_calls k)) (4 * suc k + 100) (suc (most_calls k)) (omega arith) (omega arith) in omega (arith, low)
-
 pub most_below : (k m : ℕ) → k ≤ m → most_calls k ≤ most_calls m
 most_below k zero h = let same : k ≡ 0 = omega (arith, h) in subst (λ (x : ℕ). most_calls x ≤ most_calls 0) (sym same) (omega arith)
 most_below zero (suc m) h = omega arith

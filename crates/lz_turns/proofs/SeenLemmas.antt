@@ -10,10 +10,6 @@ use Rattle.lz_model.proofs.FrontsLemmas.{Fronts}
 use Rattle.lz_model.proofs.OneRunLemmas.{without_loc-append}
 use Rattle.lz_turns.specs.Seen.{Seen, Follows, Alike}
 
-nil_left : (xs ys : List Act) → xs ++ ys ≡ [] → (xs ≡ []) × (ys ≡ [])
-nil_left [] ys e = (refl, e)
-nil_left (x ∷ xs) ys e = absurd cc
-
 module _ {S A : Type 0} where
   -- what is done is found
   found : {code : Behaviour S A} {before : S} (full : List Act) (outcome : Outcome S A) → code before full outcome → Seen code before (without_loc full) outcome

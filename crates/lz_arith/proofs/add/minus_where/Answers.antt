@@ -1,7 +1,7 @@
 use Rattle.std.proofs.Common.{◌∙◌, arith, ap, List, length}
 use Rattle.lz_cnf.specs.declared.clause.Lit.{Lit}
-use Rattle.lz_gates.proofs.Extending.{makes_so}
-use Rattle.lz_arith.proofs.Differences.{where_makes}
+use Rattle.lz_gates.proofs.ExtendingLemmas.{makes_so}
+use Rattle.lz_arith.proofs.DifferencesLemmas.{where_makes}
 use Rattle.lz_arith.proofs.add.minus_where.Goals as goal
 
 pub returns-clause-made : goal.returns-clause-made

@@ -1,6 +1,6 @@
 use Rattle.std.proofs.Common.{◌∙◌, arith, refl}
-use Rattle.lz_arith.proofs.Differences.{copied_bits, as_long, minus_makes}
-use Rattle.lz_arith.proofs.Shifting.{bits_of}
+use Rattle.lz_arith.proofs.DifferencesLemmas.{copied_bits, as_long, minus_makes}
+use Rattle.lz_arith.proofs.ShiftingLemmas.{bits_of}
 use Rattle.lz_arith.proofs.add.minus_word.Goals as goal
 
 pub subtract_words-requires : goal.subtract_words-requires

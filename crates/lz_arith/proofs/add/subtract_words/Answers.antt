@@ -1,5 +1,5 @@
 use Rattle.std.proofs.Common.{◌∙◌}
-use Rattle.lz_arith.proofs.Differences.{negated_bits, subtract_makes}
+use Rattle.lz_arith.proofs.DifferencesLemmas.{negated_bits, subtract_makes}
 use Rattle.lz_arith.proofs.add.subtract_words.Goals as goal
 
 pub add_words-requires-clause-right : goal.add_words-requires-clause-right

@@ -1,6 +1,6 @@
 use Rattle.std.proofs.Common.{ℕ, length, ◌≡◌, arith, subst}
 use Rattle.lz_arith.specs.Bits.{AreBits}
-use Rattle.lz_arith.proofs.Loops.{chooses_none, chooses_more, chooses_all}
+use Rattle.lz_arith.proofs.LoopsLemmas.{chooses_none, chooses_more, chooses_all}
 use Rattle.lz_arith.proofs.choose.choose_words.Goals as goal
 
 pub loop-i-init : goal.loop-i-init

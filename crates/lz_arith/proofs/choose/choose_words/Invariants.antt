@@ -1,5 +1,5 @@
 use Rattle.std.proofs.Common.{◌*◌}
-use Rattle.lz_arith.proofs.Loops.{Grows, Chosen}
+use Rattle.lz_arith.proofs.LoopsLemmas.{Grows, Chosen}
 use Rattle.lz_arith.proofs.choose.choose_words.Given as goal
 
 abbrev pub invariant-loop-i : goal.invariant-loop-i

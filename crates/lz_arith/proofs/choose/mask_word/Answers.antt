@@ -1,6 +1,6 @@
 use Rattle.std.proofs.Common.{ℕ, length, ◌≡◌, arith, subst}
 use Rattle.lz_arith.specs.Bits.{AreBits}
-use Rattle.lz_arith.proofs.Loops.{masks_none, masks_more, masks_all}
+use Rattle.lz_arith.proofs.LoopsLemmas.{masks_none, masks_more, masks_all}
 use Rattle.lz_arith.proofs.choose.mask_word.Goals as goal
 
 pub loop-i-init : goal.loop-i-init

@@ -1,5 +1,5 @@
 use Rattle.std.proofs.Common.{◌*◌}
-use Rattle.lz_arith.proofs.Loops.{Grows, Masked}
+use Rattle.lz_arith.proofs.LoopsLemmas.{Grows, Masked}
 use Rattle.lz_arith.proofs.choose.mask_word.Given as goal
 
 abbrev pub invariant-loop-i : goal.invariant-loop-i

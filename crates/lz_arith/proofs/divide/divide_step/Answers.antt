@@ -1,9 +1,9 @@
 use Rattle.std.proofs.Common.{◌≡◌, ◌+◌, ◌∙◌, ap, sym, subst, refl, arith, length, List, take}
 use Rattle.std.proofs.lemmas.List.{length-take-le}
 use Rattle.lz_cnf.specs.declared.clause.Lit.{Lit}
-use Rattle.lz_gates.proofs.Extending.{makes_so}
+use Rattle.lz_gates.proofs.ExtendingLemmas.{makes_so}
 use Rattle.lz_arith.proofs.AddLemmas.{are_lits_more}
-use Rattle.lz_arith.proofs.Shifting.{take_in, bits_of}
+use Rattle.lz_arith.proofs.ShiftingLemmas.{take_in, bits_of}
 use Rattle.lz_arith.proofs.DivideLemmas.{parts, step_makes}
 use Rattle.lz_arith.proofs.divide.divide_step.Goals as goal
 

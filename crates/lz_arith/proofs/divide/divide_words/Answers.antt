@@ -1,5 +1,5 @@
 use Rattle.std.proofs.Common.{sym, refl, arith, length}
-use Rattle.lz_arith.proofs.Shifting.{length-copies, copies_in, bits_of}
+use Rattle.lz_arith.proofs.ShiftingLemmas.{length-copies, copies_in, bits_of}
 use Rattle.lz_arith.proofs.DivideLemmas.{divides_none, divides_turn, divides_all, digits_room}
 use Rattle.lz_arith.proofs.divide.divide_words.Goals as goal
 

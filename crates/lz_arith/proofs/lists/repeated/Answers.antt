@@ -1,7 +1,7 @@
 use Rattle.std.proofs.Common.{ℕ, ap, ◌∙◌, sym, add-one, List, ◌++◌, ◌∷◌, []}
 use Rattle.lz_cnf.specs.declared.clause.Lit.{Lit}
 use Rattle.lz_arith.specs.Bits.{copies}
-use Rattle.lz_arith.proofs.Shifting.{copies_push}
+use Rattle.lz_arith.proofs.ShiftingLemmas.{copies_push}
 use Rattle.lz_arith.proofs.lists.repeated.Goals as goal
 
 pub loop-i-preserved : goal.loop-i-preserved

@@ -2,8 +2,8 @@ use Rattle.std.proofs.Common.{arith, ap, ◌∙◌, ◌<◌, sym, subst, List, �
 use Rattle.std.specs.List.{All}
 use Rattle.lz_cnf.specs.declared.clause.Lit.{Lit}
 use Rattle.lz_cnf.specs.Models.{variable_of}
-use Rattle.lz_gates.proofs.Gate.{variable_of-positive, still_working}
-use Rattle.lz_gates.proofs.Lists.{below_two, negated_below}
+use Rattle.lz_gates.proofs.GateLemmas.{variable_of-positive, still_working}
+use Rattle.lz_gates.proofs.ListsLemmas.{below_two, negated_below}
 use Rattle.lz_arith.proofs.NonzeroLemmas.{tests_none, tests_more, tests_all, long_clause}
 use Rattle.lz_arith.proofs.nonzero.new_test.Goals as goal
 

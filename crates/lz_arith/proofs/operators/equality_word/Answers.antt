@@ -1,5 +1,5 @@
 use Rattle.std.proofs.Common.{arith}
-use Rattle.lz_gates.proofs.Extending.{makes_so}
+use Rattle.lz_gates.proofs.ExtendingLemmas.{makes_so}
 use Rattle.lz_arith.proofs.OperatorsLemmas.{equal_of, truth_of}
 use Rattle.lz_arith.proofs.operators.equality_word.Goals as goal
 

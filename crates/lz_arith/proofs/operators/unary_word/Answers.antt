@@ -1,5 +1,5 @@
 use Rattle.lz_arith.proofs.OperatorsLemmas.{same_makes, inverted_makes}
-use Rattle.lz_arith.proofs.Differences.{negated_bits}
+use Rattle.lz_arith.proofs.DifferencesLemmas.{negated_bits}
 use Rattle.lz_arith.proofs.operators.unary_word.Goals as goal
 
 pub returns-in_ok-same-in-Plus-clause-made : goal.returns-in_ok-same-in-Plus-clause-made

@@ -3,7 +3,7 @@ use Rattle.lz_cnf.specs.declared.clause.Lit.{Lit}
 use Rattle.lz_gates.specs.Circuits.{Makes, value}
 use Rattle.lz_arith.specs.Bits.{word, bit}
 use Rattle.lz_arith.proofs.AddLemmas.{are_lits_more}
-use Rattle.lz_arith.proofs.Shifting.{moved_bits, bits_of}
+use Rattle.lz_arith.proofs.ShiftingLemmas.{moved_bits, bits_of}
 use Rattle.lz_arith.proofs.ProductLemmas.{row_makes}
 use Rattle.lz_arith.proofs.product.product_row.Goals as goal
 

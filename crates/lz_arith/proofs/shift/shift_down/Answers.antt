@@ -1,7 +1,7 @@
 use Rattle.std.proofs.Common.{ℕ, ◌^◌, length, arith, refl}
 use Rattle.lz_gates.specs.Circuits.{Assignment, value}
 use Rattle.lz_arith.specs.Shifts.{moved_down}
-use Rattle.lz_arith.proofs.Shifting.{bits_of}
+use Rattle.lz_arith.proofs.ShiftingLemmas.{bits_of}
 use Rattle.lz_arith.proofs.ShiftsLemmas.{shifts_none, shifts_turn, shifts_all, stage_room, stage_within, downs_move}
 use Rattle.lz_arith.proofs.shift.shift_down.Goals as goal
 

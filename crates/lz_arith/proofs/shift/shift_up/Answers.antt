@@ -1,7 +1,7 @@
 use Rattle.std.proofs.Common.{ℕ, ◌^◌, length, arith, refl}
 use Rattle.lz_gates.specs.Circuits.{Assignment}
 use Rattle.lz_arith.specs.Shifts.{moved_up}
-use Rattle.lz_arith.proofs.Shifting.{bits_of}
+use Rattle.lz_arith.proofs.ShiftingLemmas.{bits_of}
 use Rattle.lz_arith.proofs.ShiftsLemmas.{shifts_none, shifts_turn, shifts_all, stage_room, stage_within, ups_move}
 use Rattle.lz_arith.proofs.shift.shift_up.Goals as goal
 

@@ -1,5 +1,5 @@
 use Rattle.std.proofs.Common.{◌∙◌, sym, refl, arith}
-use Rattle.lz_arith.proofs.Shifting.{bits_of}
+use Rattle.lz_arith.proofs.ShiftingLemmas.{bits_of}
 use Rattle.lz_arith.proofs.ShiftsLemmas.{down_bits, stage_down_makes}
 use Rattle.lz_arith.proofs.shift.stage_down.Goals as goal
 

@@ -1,5 +1,5 @@
 use Rattle.std.proofs.Common.{◌∙◌, sym, refl, arith}
-use Rattle.lz_arith.proofs.Shifting.{bits_of, moved_bits}
+use Rattle.lz_arith.proofs.ShiftingLemmas.{bits_of, moved_bits}
 use Rattle.lz_arith.proofs.ShiftsLemmas.{stage_up_makes}
 use Rattle.lz_arith.proofs.shift.stage_up.Goals as goal
 

@@ -1,6 +1,6 @@
 use Rattle.std.proofs.Common.{arith, ℕ, ◌≡◌, subst}
 use Rattle.lz_arith.specs.Bits.{AreBits}
-use Rattle.lz_blast.proofs.WordsMade.{knows_none, knows_more, knows_all}
+use Rattle.lz_blast.proofs.WordsMadeLemmas.{knows_none, knows_more, knows_all}
 use Rattle.lz_blast.proofs.constant.constant_bits.Goals as goal
 
 pub loop-i-init : goal.loop-i-init

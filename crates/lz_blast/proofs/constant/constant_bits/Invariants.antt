@@ -1,4 +1,4 @@
-use Rattle.lz_blast.proofs.WordsMade.{Knows}
+use Rattle.lz_blast.proofs.WordsMadeLemmas.{Knows}
 use Rattle.lz_blast.proofs.constant.constant_bits.Given as goal
 
 abbrev pub invariant-loop-i : goal.invariant-loop-i

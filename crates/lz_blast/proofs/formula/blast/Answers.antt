@@ -2,7 +2,7 @@ use Rattle.std.proofs.Common.{◌∙◌, sym, subst, List, []}
 use Rattle.lz_cnf.specs.declared.clause.Lit.{Lit}
 use Rattle.lz_blast.specs.Steps.{Stands}
 use Rattle.lz_blast.proofs.StepsLemmas.{stands_none}
-use Rattle.lz_blast.proofs.WordsMade.{unread_at}
+use Rattle.lz_blast.proofs.WordsMadeLemmas.{unread_at}
 use Rattle.lz_blast.proofs.TurnsLemmas.{length-unread, turn_node, turn_room, turn_more, turn_all, test_room}
 use Rattle.lz_blast.proofs.FormulasLemmas.{decides, counted, tested_of}
 use Rattle.lz_blast.proofs.formula.blast.Goals as goal

@@ -1,6 +1,6 @@
 use Rattle.std.proofs.Common.{arith, ◌≡◌, ◌∙◌, ap}
 use Rattle.lz_blast.specs.Encoding.{fresh_word}
-use Rattle.lz_blast.proofs.WordsMade.{freshens_none, freshens_more}
+use Rattle.lz_blast.proofs.WordsMadeLemmas.{freshens_none, freshens_more}
 use Rattle.lz_blast.proofs.input.fresh_bits.Goals as goal
 
 pub loop-i-init : goal.loop-i-init

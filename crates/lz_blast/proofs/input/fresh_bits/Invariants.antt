@@ -1,4 +1,4 @@
-use Rattle.lz_blast.proofs.WordsMade.{Freshens}
+use Rattle.lz_blast.proofs.WordsMadeLemmas.{Freshens}
 use Rattle.lz_blast.proofs.input.fresh_bits.Given as goal
 
 abbrev pub invariant-loop-i : goal.invariant-loop-i

@@ -1,6 +1,6 @@
 use Rattle.std.proofs.Common.{◌∙◌, ap, List, [], ◌∷◌, ◌++◌, replicate}
 use Rattle.lz_cnf.specs.declared.clause.Lit.{Lit}
-use Rattle.lz_blast.proofs.WordsMade.{replicate_push}
+use Rattle.lz_blast.proofs.WordsMadeLemmas.{replicate_push}
 use Rattle.lz_blast.proofs.input.unread.Goals as goal
 
 pub loop-i-preserved : goal.loop-i-preserved

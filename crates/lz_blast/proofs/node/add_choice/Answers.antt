@@ -1,5 +1,5 @@
 use Rattle.std.proofs.Common.{refl}
-use Rattle.lz_arith.proofs.Shifting.{bits_of}
+use Rattle.lz_arith.proofs.ShiftingLemmas.{bits_of}
 use Rattle.lz_blast.proofs.NodeLemmas.{adds_choice, held_long}
 use Rattle.lz_blast.proofs.node.add_choice.Goals as goal
 

@@ -1,5 +1,5 @@
 use Rattle.std.proofs.Common.{arith}
-use Rattle.lz_lazy.proofs.Masks.{mask_begins, mask_turns, mask_below, mask_found}
+use Rattle.lz_lazy.proofs.MasksLemmas.{mask_begins, mask_turns, mask_below, mask_found}
 use Rattle.lz_lazy.proofs.encode.mask_of.Goals as goal
 
 pub loop-init : goal.loop-init

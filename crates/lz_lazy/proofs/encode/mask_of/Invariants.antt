@@ -1,4 +1,4 @@
-use Rattle.lz_lazy.proofs.Masks.{MaskAt}
+use Rattle.lz_lazy.proofs.MasksLemmas.{MaskAt}
 use Rattle.lz_lazy.proofs.encode.mask_of.Given as goal
 
 abbrev pub invariant-loop : goal.invariant-loop

@@ -1,5 +1,5 @@
 use Rattle.std.proofs.Common.{arith}
-use Rattle.lz_lazy.proofs.Coding.{one_turn, no_more}
+use Rattle.lz_lazy.proofs.CodingLemmas.{one_turn, no_more}
 use Rattle.lz_lazy.proofs.encode.push_code.Goals as goal
 
 pub loop-l-preserved : goal.loop-l-preserved

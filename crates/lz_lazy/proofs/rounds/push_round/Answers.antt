@@ -1,5 +1,5 @@
 use Rattle.std.proofs.Common.{arith}
-use Rattle.lz_lazy.proofs.Rounding.{thread_turn, threads_done}
+use Rattle.lz_lazy.proofs.RoundingLemmas.{thread_turn, threads_done}
 use Rattle.lz_lazy.proofs.rounds.push_round.Goals as goal
 
 pub loop-thread-preserved : goal.loop-thread-preserved

@@ -4,11 +4,11 @@ use Rattle.lz_flat.specs.WellFormed.{IsWellFormed}
 use Rattle.lz_flat.specs.Lengths.{StraightHasLengths}
 use Rattle.lz_flat.specs.Weight.{straight_weight, flat_weight}
 use Rattle.lz_lazy.specs.Sequential.{FailsAsDriven, FailsWhereBroken}
-use Rattle.lz_lazy.proofs.Whole.{fails_as_driven, fails_where_broken}
-use Rattle.lz_lazy.proofs.Forming.{well_formed}
-use Rattle.lz_lazy.proofs.Weighing.{weighs}
-use Rattle.lz_lazy.proofs.Measuring.{has_lengths}
-use Rattle.lz_lazy.proofs.Ending.{carry, sized, all_short, short, numbered}
+use Rattle.lz_lazy.proofs.WholeLemmas.{fails_as_driven, fails_where_broken}
+use Rattle.lz_lazy.proofs.FormingLemmas.{well_formed}
+use Rattle.lz_lazy.proofs.WeighingLemmas.{weighs}
+use Rattle.lz_lazy.proofs.MeasuringLemmas.{has_lengths}
+use Rattle.lz_lazy.proofs.EndingLemmas.{carry, sized, all_short, short, numbered}
 use Rattle.lz_lazy.proofs.rounds.sequentialize.Goals as goal
 
 pub statements-requires-clause-places : goal.statements-requires-clause-places

@@ -1,5 +1,5 @@
 use Rattle.std.proofs.Common.{arith}
-use Rattle.lz_lazy.proofs.Rounding.{round_turn, rounds_done}
+use Rattle.lz_lazy.proofs.RoundingLemmas.{round_turn, rounds_done}
 use Rattle.lz_lazy.proofs.rounds.statements.Goals as goal
 
 pub loop-preserved : goal.loop-preserved

@@ -1,6 +1,6 @@
 use Rattle.std.proofs.Common.{◌≡◌, ◌-◌, ◌++◌, map}
 use Rattle.lz_flat.specs.Programs.{statement}
-use Rattle.lz_lazy.proofs.Rounding.{rounds_left}
+use Rattle.lz_lazy.proofs.RoundingLemmas.{rounds_left}
 use Rattle.lz_lazy.proofs.rounds.statements.Given as goal
 
 abbrev pub invariant-loop : goal.invariant-loop

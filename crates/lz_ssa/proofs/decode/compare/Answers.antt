@@ -1,6 +1,6 @@
 use Rattle.std.proofs.Common.{ap, arith}
 use Rattle.lz_ssa.specs.Construction.{Compared}
-use Rattle.lz_ssa.proofs.Loops.{compare_turn, compare_end}
+use Rattle.lz_ssa.proofs.LoopsLemmas.{compare_turn, compare_end}
 use Rattle.lz_ssa.proofs.decode.compare.Goals as goal
 
 pub loop-i-preserved : goal.loop-i-preserved

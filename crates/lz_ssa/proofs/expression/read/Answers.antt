@@ -1,6 +1,6 @@
 use Rattle.std.proofs.Common.{ap, arith}
 use Rattle.lz_ssa.specs.Construction.{With}
-use Rattle.lz_ssa.proofs.Loops.{read_turns, read_ends}
+use Rattle.lz_ssa.proofs.LoopsLemmas.{read_turns, read_ends}
 use Rattle.lz_ssa.proofs.expression.read.Goals as goal
 
 pub loop-place-preserved : goal.loop-place-preserved

@@ -1,6 +1,6 @@
 use Rattle.std.proofs.Common.{arith}
 use Rattle.lz_flat.proofs.StraightRunLemmas.{statement_at}
-use Rattle.lz_ssa.proofs.StatementLoop.{statements_turn, statements_end}
+use Rattle.lz_ssa.proofs.StatementLoopLemmas.{statements_turn, statements_end}
 use Rattle.lz_ssa.proofs.make.add_statements.Goals as goal
 
 pub statement-requires-clause-within : goal.statement-requires-clause-within

@@ -1,5 +1,5 @@
 use Rattle.std.proofs.Common.{arith}
-use Rattle.lz_ssa.proofs.Loops.{write_turns, write_ends}
+use Rattle.lz_ssa.proofs.LoopsLemmas.{write_turns, write_ends}
 use Rattle.lz_ssa.proofs.write.write_chain.Goals as goal
 
 pub loop-place-preserved : goal.loop-place-preserved

@@ -1,6 +1,6 @@
 use Rattle.std.proofs.Common.{subst}
 use Rattle.lz_gates.specs.Circuits.{Circuit, IsCircuit}
-use Rattle.lz_gates.proofs.HalfChoices.{half_no_false, half_yes_false, half_no_true, half_yes_true}
+use Rattle.lz_gates.proofs.HalfChoicesLemmas.{half_no_false, half_yes_false, half_no_true, half_yes_true}
 use Rattle.lz_gates.proofs.builder.Builder.open_choice.Goals as goal
 
 pub returns-then-no-eq1-clause-made : goal.returns-then-no-eq1-clause-made

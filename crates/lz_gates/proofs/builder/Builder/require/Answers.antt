@@ -2,7 +2,7 @@ use Rattle.std.proofs.Common.{subst, sym, ◌<◌}
 use Rattle.std.specs.List.{All}
 use Rattle.lz_cnf.specs.Models.{variable_of}
 use Rattle.lz_gates.specs.Circuits.{Circuit}
-use Rattle.lz_gates.proofs.Extending.{is_circuit_require}
+use Rattle.lz_gates.proofs.ExtendingLemmas.{is_circuit_require}
 use Rattle.lz_gates.proofs.builder.Builder.require.Goals as goal
 
 pub invariant_of-self : goal.invariant_of-self

@@ -2,7 +2,7 @@ use Rattle.std.proofs.Common.{arith, ◌∙◌, ap, List, length, take, length-a
 use Rattle.std.proofs.lemmas.List.{take_all, take-append-le}
 use Rattle.lz_outside.specs.declared.memory.slot.Slot.{Slot}
 use Rattle.lz_outside.specs.Memory.Slots.{IsRoomy}
-use Rattle.lz_outside.proofs.memory.InSlots.{All-push}
+use Rattle.lz_outside.proofs.memory.InSlotsLemmas.{All-push}
 use Rattle.lz_outside.proofs.memory.folder.add_spare.Goals as goal
 
 pub loop-init : goal.loop-init

@@ -1,7 +1,7 @@
 use Rattle.std.proofs.Common.{◌∙◌, ap, arith, map, List}
 use Rattle.lz_outside.specs.declared.memory.slot.Slot.{Slot}
 use Rattle.lz_outside.specs.Memory.Slots.{IsRoomy, file_of}
-use Rattle.lz_outside.proofs.memory.InSlots.{All-push, files_of-more}
+use Rattle.lz_outside.proofs.memory.InSlotsLemmas.{All-push, files_of-more}
 use Rattle.lz_outside.proofs.memory.folder.slots_of.Goals as goal
 
 pub loop-file-preserved : goal.loop-file-preserved

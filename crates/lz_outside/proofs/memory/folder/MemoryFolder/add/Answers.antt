@@ -4,7 +4,7 @@ use Rattle.lz_outside.specs.Files.{bytes_or_none}
 use Rattle.lz_outside.specs.declared.memory.folder.File.{File}
 use Rattle.lz_outside.specs.declared.memory.slot.Slot.{Slot}
 use Rattle.lz_outside.specs.Memory.Folder.{FolderState, content_of}
-use Rattle.lz_outside.proofs.memory.InSlots.{HoldsFile, bytes_kept, changes_before, found_slot}
+use Rattle.lz_outside.proofs.memory.InSlotsLemmas.{HoldsFile, bytes_kept, changes_before, found_slot}
 use Rattle.lz_outside.proofs.memory.folder.MemoryFolder.add.Goals as goal
 
 pub index_mut-slot-requires : goal.index_mut-slot-requires

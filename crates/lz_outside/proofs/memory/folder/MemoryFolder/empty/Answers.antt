@@ -3,7 +3,7 @@ use Rattle.lz_outside.specs.Memory.Buffer.{BufferState}
 use Rattle.lz_outside.specs.declared.memory.folder.File.{File}
 use Rattle.lz_outside.specs.declared.memory.slot.Slot.{Slot}
 use Rattle.lz_outside.specs.Memory.Folder.{FolderState}
-use Rattle.lz_outside.proofs.memory.InSlots.{HoldsFile, changes_before, found_slot}
+use Rattle.lz_outside.proofs.memory.InSlotsLemmas.{HoldsFile, changes_before, found_slot}
 use Rattle.lz_outside.proofs.memory.folder.MemoryFolder.empty.Goals as goal
 
 pub index_mut-slot-requires : goal.index_mut-slot-requires

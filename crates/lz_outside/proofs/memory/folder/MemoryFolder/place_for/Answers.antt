@@ -1,7 +1,7 @@
 use Rattle.std.proofs.Common.{arith, ap, sym, ◌≡◌, ◌<◌, ◌∙◌, ◌⊎◌, ◌++◌, inl, inr, ◌-◌, length, List, [], ℕ, refl, set}
 use Rattle.lz_outside.specs.Memory.Buffer.{BufferState}
 use Rattle.lz_outside.specs.Memory.Folder.{FolderState}
-use Rattle.lz_outside.proofs.memory.InSlots.{OpensFile, missing, not_missing, opens_new, place_in, with_content-found}
+use Rattle.lz_outside.proofs.memory.InSlotsLemmas.{OpensFile, missing, not_missing, opens_new, place_in, with_content-found}
 use Rattle.lz_outside.proofs.memory.folder.MemoryFolder.place_for.Goals as goal
 
 pub returns-then-is_some-clause-opened : goal.returns-then-is_some-clause-opened

@@ -1,5 +1,5 @@
 use Rattle.std.proofs.Common.{[], rules}
-use Rattle.lz_outside.proofs.memory.Listings.{Changes-with_content}
+use Rattle.lz_outside.proofs.memory.ListingsLemmas.{Changes-with_content}
 use Rattle.lz_outside.proofs.memory.folder.MemoryFolderFolder.begin.Goals as goal
 
 pub returns-clause-changes : goal.returns-clause-changes

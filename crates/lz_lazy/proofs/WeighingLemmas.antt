@@ -4,7 +4,7 @@ use Rattle.lz_flat.specs.Programs.{Instruction, sets, takes, assumes, checks, sk
 use Rattle.lz_flat.specs.FlatRuns.{threads_from, blocks}
 use Rattle.lz_flat.specs.Weight.{expression_weight, parts_weight, statement_weight, list_weight, straight_weight, instruction_number, mark_number, code_weight, thread_number, threads_weight, flat_weight}
 use Rattle.lz_lazy.specs.Encoding.{stands_at, runs_next, body, following, head, encoded, encoded_blocks, sequential}
-use Rattle.lz_lazy.proofs.Sizes.{part_at}
+use Rattle.lz_lazy.proofs.SizesLemmas.{part_at}
 
 -- two lists of statements weigh what each weighs
 both : (xs ys : List Statement) → list_weight (xs ++ ys) ≡ list_weight xs + list_weight ys

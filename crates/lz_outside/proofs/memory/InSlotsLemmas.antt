@@ -10,7 +10,7 @@ use Rattle.lz_outside.specs.declared.memory.slot.Slot.{Slot}
 use Rattle.lz_outside.specs.Files.{bytes_or_none}
 use Rattle.lz_outside.specs.Memory.Folder.{content_of, with_content}
 use Rattle.lz_outside.specs.Memory.Slots.{file_of, files_of, place_from}
-use Rattle.lz_outside.proofs.memory.Listings.{StandsAt, found, content_of-none, content_of-with_content, place_from-new, with_content-new, with_content-same, with_content-twice}
+use Rattle.lz_outside.proofs.memory.ListingsLemmas.{StandsAt, found, content_of-none, content_of-with_content, place_from-new, with_content-new, with_content-same, with_content-twice}
 
 pub length-files_of : (used : ℕ) (slots : List Slot) → used ≤ length slots → length (files_of used slots) ≡ used
 length-files_of used slots h = length-map (take used slots) file_of ∙ length-take-le used slots h

@@ -10,8 +10,8 @@ use Rattle.std.proofs.lemmas.Int.{ints}
 use Rattle.lz_cnf.specs.declared.clause.Lit.{Lit}
 use Rattle.lz_gates.specs.Circuits.{Assignment, value, xor}
 use Rattle.lz_arith.specs.Bits.{bit, word, copies}
-use Rattle.lz_arith.proofs.Words.{word_push, word_lt}
-use Rattle.lz_arith.proofs.Shifting.{word_split}
+use Rattle.lz_arith.proofs.WordsLemmas.{word_push, word_lt}
+use Rattle.lz_arith.proofs.ShiftingLemmas.{word_split}
 use Rattle.lz_arith.proofs.DivideLemmas.{small_mod}
 
 -- ---- shifts: a stage after the stages before it

@@ -9,10 +9,10 @@ use Rattle.lz_flat.specs.Programs.{Expression, constant, word, choose, Location,
 use Rattle.lz_flat.specs.StraightRuns.{Fate, still, stops, fails, fate_behind, straight}
 use Rattle.lz_flat.specs.WellFormed.{IsInstructionOf, IsForward, IsCodeOf}
 use Rattle.lz_lazy.specs.Encoding.{whole, flag_place, saved_place, runs_next, idle, always, flagged, body, following, encoded}
-use Rattle.lz_lazy.proofs.OnePass.{pass}
+use Rattle.lz_lazy.proofs.OnePassLemmas.{pass}
 use Rattle.lz_flat.proofs.WordsLemmas.{value_laid, extended, did_laid, Keeps, did_keeps}
 use Rattle.lz_flat.proofs.StraightRunLemmas.{straight_passed}
-use Rattle.lz_lazy.proofs.LaidOut.{laid, at_flag, set_flag, set_saved, ready, ready_next, value_next}
+use Rattle.lz_lazy.proofs.LaidOutLemmas.{laid, at_flag, set_flag, set_saved, ready, ready_next, value_next}
 
 -- ---- one statement
 

@@ -6,9 +6,9 @@ use Rattle.std.proofs.lemmas.List.{length-append, length-take-le}
 use Rattle.std.proofs.lemmas.List.Elements.{All-append, All-take}
 use Rattle.lz_cnf.specs.declared.clause.Lit.{Lit}
 use Rattle.lz_gates.specs.Circuits.{Circuit, Assignment, value, IsLit, AreLits, Satisfies, Makes}
-use Rattle.lz_gates.proofs.Extending.{makes_so, still}
+use Rattle.lz_gates.proofs.ExtendingLemmas.{makes_so, still}
 use Rattle.lz_arith.specs.Bits.{word, copies, AreBits}
-use Rattle.lz_arith.proofs.Words.{word_append, word_lt, pow_twice, twice}
+use Rattle.lz_arith.proofs.WordsLemmas.{word_append, word_lt, pow_twice, twice}
 use Rattle.lz_arith.proofs.AddLemmas.{are_lits_more}
 
 -- one more copy

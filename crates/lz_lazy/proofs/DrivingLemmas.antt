@@ -14,11 +14,11 @@ use Rattle.lz_lazy.specs.Encoding.{whole, guess_place, flag_place, runs_next, cl
 use Rattle.lz_base.specs.Words.{value_bound}
 use Rattle.lz_flat.proofs.LandingLemmas.{drop-none, drop-next, begins, begins_none}
 use Rattle.lz_flat.proofs.WordsLemmas.{Keeps, did_keeps}
-use Rattle.lz_lazy.proofs.Guesses.{clamped, clamped_below}
-use Rattle.lz_lazy.proofs.Masks.{IsMask, mask_is, mask_enough}
-use Rattle.lz_lazy.proofs.OnePass.{pass, one_pass}
-use Rattle.lz_lazy.proofs.LaidOut.{laid, set_guess, ready_next, value_clamp}
-use Rattle.lz_lazy.proofs.Simulation.{taken, constant_is, sets_did, third, fate_of, simulates}
+use Rattle.lz_lazy.proofs.GuessesLemmas.{clamped, clamped_below}
+use Rattle.lz_lazy.proofs.MasksLemmas.{IsMask, mask_is, mask_enough}
+use Rattle.lz_lazy.proofs.OnePassLemmas.{pass, one_pass}
+use Rattle.lz_lazy.proofs.LaidOutLemmas.{laid, set_guess, ready_next, value_clamp}
+use Rattle.lz_lazy.proofs.SimulationLemmas.{taken, constant_is, sets_did, third, fate_of, simulates}
 
 -- ---- one list of statements after another
 

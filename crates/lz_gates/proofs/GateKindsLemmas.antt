@@ -4,9 +4,9 @@ use Rattle.std.proofs.lemmas.List.{append_assoc, length-append}
 use Rattle.lz_cnf.specs.declared.clause.Lit.{Lit}
 use Rattle.lz_cnf.specs.Models.{variable_of, negated}
 use Rattle.lz_gates.specs.Circuits.{Circuit, Assignment, value, clause_value, Satisfies, Agree, IsLit, IsBelow, AreBelow, Extends, Makes, choice, xor}
-use Rattle.lz_gates.proofs.Extending.{value_agrees, satisfies_back}
-use Rattle.lz_gates.proofs.Lists.{below_two as two, below_three as three}
-use Rattle.lz_gates.proofs.Gate.{variable_of-negated, variable_of-positive, value-negated, value-positive, extends_by_value}
+use Rattle.lz_gates.proofs.ExtendingLemmas.{value_agrees, satisfies_back}
+use Rattle.lz_gates.proofs.ListsLemmas.{below_two as two, below_three as three}
+use Rattle.lz_gates.proofs.GateLemmas.{variable_of-negated, variable_of-positive, value-negated, value-positive, extends_by_value}
 
 -- a new variable, with clauses that hold exactly where it has a value that older variables settle
 pub gate_makes : (old new : Circuit) (g : Lit) (added : List (List Lit)) (count : ℕ) (v : Assignment → Bool)

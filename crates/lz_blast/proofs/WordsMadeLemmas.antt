@@ -4,9 +4,9 @@ use Rattle.std.proofs.lemmas.List.{length_push}
 use Rattle.std.proofs.lemmas.List.Elements.{All-push}
 use Rattle.lz_cnf.specs.declared.clause.Lit.{Lit}
 use Rattle.lz_gates.specs.Circuits.{Circuit, Assignment, value, Satisfies, IsLit, Makes}
-use Rattle.lz_gates.proofs.Extending.{makes_same}
+use Rattle.lz_gates.proofs.ExtendingLemmas.{makes_same}
 use Rattle.lz_arith.specs.Bits.{bit, word, AreBits}
-use Rattle.lz_arith.proofs.Words.{word_push, pow_twice}
+use Rattle.lz_arith.proofs.WordsLemmas.{word_push, pow_twice}
 use Rattle.lz_blast.specs.Encoding.{fresh_word, input_at}
 use Rattle.lz_blast.proofs.EncodingLemmas.{odd_bit}
 

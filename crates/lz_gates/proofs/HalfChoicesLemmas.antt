@@ -3,8 +3,8 @@ use Rattle.std.proofs.Common.{◌≡◌, ℕ, Bool, true, false, not, ◌&&◌, 
 use Rattle.lz_cnf.specs.declared.clause.Lit.{Lit}
 use Rattle.lz_cnf.specs.Models.{negated}
 use Rattle.lz_gates.specs.Circuits.{Circuit, Assignment, value, IsCircuit, Satisfies, Makes, choice}
-use Rattle.lz_gates.proofs.Extending.{makes_so, still}
-use Rattle.lz_gates.proofs.Gate.{value-negated}
+use Rattle.lz_gates.proofs.ExtendingLemmas.{makes_so, still}
+use Rattle.lz_gates.proofs.GateLemmas.{value-negated}
 use Rattle.lz_gates.proofs.FoldLemmas.{value-truth, value-falsity}
 
 -- with 0 on the other side

@@ -2,9 +2,9 @@
 use Rattle.std.proofs.Common.{◌≡◌, ℕ, ◌+◌, ◌-◌, ◌*◌, ◌^◌, ◌%◌, true, false, cond, List, length, sym, ◌∙◌, ap, subst, arith}
 use Rattle.lz_cnf.specs.declared.clause.Lit.{Lit}
 use Rattle.lz_gates.specs.Circuits.{Circuit, Assignment, value, IsLit, AreLits, Satisfies, Makes}
-use Rattle.lz_gates.proofs.Extending.{makes_then, makes_so, still}
+use Rattle.lz_gates.proofs.ExtendingLemmas.{makes_then, makes_so, still}
 use Rattle.lz_arith.specs.Bits.{bit, word, copies, negations, AreBits}
-use Rattle.lz_arith.proofs.Shifting.{length-copies, copies_in, word_copies}
+use Rattle.lz_arith.proofs.ShiftingLemmas.{length-copies, copies_in, word_copies}
 use Rattle.lz_arith.proofs.DivideLemmas.{word_negations, length-negations, negations_in}
 
 -- the literals in the other sign are as many, of the same circuit

@@ -10,11 +10,11 @@ use Rattle.lz_flat.specs.FlatRuns.{Ran, went, held, breaks, ended, behind, onwar
 use Rattle.lz_flat.specs.Instructions.{Did, moved, blocked, broke, did}
 use Rattle.lz_flat.specs.Programs.{MarkedInstruction, FlatProgram, code_of}
 use Rattle.lz_flat.specs.WellFormed.{IsWellMarked}
-use Rattle.lz_lazy.proofs.Simulation.{set_twice}
-use Rattle.lz_lazy.proofs.Driving.{AreThreads, opening_stands, blocks_small, length_zeros}
+use Rattle.lz_lazy.proofs.SimulationLemmas.{set_twice}
+use Rattle.lz_lazy.proofs.DrivingLemmas.{AreThreads, opening_stands, blocks_small, length_zeros}
 use Rattle.lz_flat.proofs.RoundsLemmas.{fits_rounds, few_rounds}
-use Rattle.lz_lazy.proofs.Guessing.{guesses_of}
-use Rattle.lz_lazy.proofs.Inputs.{step_agrees, inputs_of, driven_guided, inputs_small}
+use Rattle.lz_lazy.proofs.GuessingLemmas.{guesses_of}
+use Rattle.lz_lazy.proofs.InputsLemmas.{step_agrees, inputs_of, driven_guided, inputs_small}
 
 -- ---- places rise
 

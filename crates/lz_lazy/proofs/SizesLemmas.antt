@@ -7,7 +7,7 @@ use Rattle.lz_flat.specs.Instructions.{value, Did, moved, blocked, broke, did}
 use Rattle.lz_flat.specs.Programs.{MarkedInstruction, FlatProgram, code_of, Statement, instructions}
 use Rattle.lz_flat.specs.StraightRuns.{Fate, fate_behind, straight}
 use Rattle.lz_lazy.specs.Encoding.{head, encoded, encoded_blocks, encoding}
-use Rattle.lz_lazy.proofs.Driving.{length_encoded}
+use Rattle.lz_lazy.proofs.DrivingLemmas.{length_encoded}
 
 -- the blocks of two lists of threads have the statements of both
 size_append : (flat : FlatProgram) (xs ys : List ℕ) → length (encoded_blocks flat (xs ++ ys)) ≡ length (encoded_blocks flat xs) + length (encoded_blocks flat ys)

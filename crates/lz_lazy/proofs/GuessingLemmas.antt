@@ -10,9 +10,9 @@ use Rattle.lz_flat.specs.Instructions.{did}
 use Rattle.lz_flat.specs.Programs.{MarkedInstruction, FlatProgram, code_of}
 use Rattle.lz_flat.specs.WellFormed.{BeginsVisible}
 use Rattle.lz_flat.proofs.LandingLemmas.{drop-next, Lands, step_lands}
-use Rattle.lz_lazy.proofs.OnePass.{pass, carried, through, behind_carried, below_is_pass}
-use Rattle.lz_lazy.proofs.Simulation.{set_twice}
-use Rattle.lz_lazy.proofs.Driving.{AllStand, AreThreads, stand_after}
+use Rattle.lz_lazy.proofs.OnePassLemmas.{pass, carried, through, behind_carried, below_is_pass}
+use Rattle.lz_lazy.proofs.SimulationLemmas.{set_twice}
+use Rattle.lz_lazy.proofs.DrivingLemmas.{AllStand, AreThreads, stand_after}
 
 -- ---- the first step of a pass
 

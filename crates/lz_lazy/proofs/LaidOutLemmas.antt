@@ -7,8 +7,8 @@ use Rattle.lz_flat.specs.Programs.{MarkedInstruction}
 use Rattle.lz_base.specs.Words.{truth}
 use Rattle.lz_base.proofs.WordsLemmas.{both_truths}
 use Rattle.lz_lazy.specs.Encoding.{whole, guess_place, flag_place, saved_place, stands_at, runs_next, clamp}
-use Rattle.lz_lazy.proofs.Masks.{IsMask, and_within}
-use Rattle.lz_lazy.proofs.Guesses.{clamped}
+use Rattle.lz_lazy.proofs.MasksLemmas.{IsMask, and_within}
+use Rattle.lz_lazy.proofs.GuessesLemmas.{clamped}
 
 -- the memory of the straight program: the words, the guess, the flag and the places
 abbrev pub laid : List ℕ → ℕ → ℕ → List ℕ → List ℕ

@@ -5,9 +5,9 @@ use Rattle.std.proofs.lemmas.List.Elements.{All-push}
 use Rattle.std.proofs.lemmas.Bool.Decides.{nat_tests}
 use Rattle.lz_cnf.specs.declared.clause.Lit.{Lit}
 use Rattle.lz_gates.specs.Circuits.{Circuit, Assignment, value, IsLit, AreLits, Satisfies, Makes, xor, choice}
-use Rattle.lz_gates.proofs.Extending.{makes_then, makes_so, makes_same}
+use Rattle.lz_gates.proofs.ExtendingLemmas.{makes_then, makes_so, makes_same}
 use Rattle.lz_arith.specs.Bits.{bit, word, AreBits}
-use Rattle.lz_arith.proofs.Words.{word_push, word_take, word_lt}
+use Rattle.lz_arith.proofs.WordsLemmas.{word_push, word_take, word_lt}
 use Rattle.lz_arith.proofs.AddLemmas.{are_lits_more}
 
 -- what a loop that pushes one literal a turn keeps

@@ -9,9 +9,9 @@ use Rattle.lz_flat.specs.StraightRuns.{fails, straight, FailsOn, IsInputList}
 use Rattle.lz_flat.specs.WellFormed.{IsWellMarked}
 use Rattle.lz_lazy.specs.Encoding.{encoding, encoded_first, sequential}
 use Rattle.lz_lazy.specs.Sequential.{FailsAsDriven, FailsWhereBroken}
-use Rattle.lz_lazy.proofs.Driving.{exact}
-use Rattle.lz_lazy.proofs.Reading.{existence}
-use Rattle.lz_lazy.proofs.Sizes.{listed, length_listed, at_listed, straight_agrees}
+use Rattle.lz_lazy.proofs.DrivingLemmas.{exact}
+use Rattle.lz_lazy.proofs.ReadingLemmas.{existence}
+use Rattle.lz_lazy.proofs.SizesLemmas.{listed, length_listed, at_listed, straight_agrees}
 
 -- so many inputs that are words are a list of words
 all_listed : (input : ℕ → ℕ) (i more : ℕ) → ((k : ℕ) → input k < value_bound) → AllByRecursion (λ v. v < value_bound) (listed input i more)

@@ -5,7 +5,7 @@ use Rattle.lz_flat.specs.Programs.{Instruction, sets, takes, assumes, checks, sk
 use Rattle.lz_flat.specs.FlatRuns.{blocks}
 use Rattle.lz_flat.specs.Lengths.{IsLength, HasLengths, InstructionHasLengths, CodeHasLengths, FlatHasLengths, StatementHasLengths, StraightHasLengths}
 use Rattle.lz_lazy.specs.Encoding.{stands_at, runs_next, body, following, head, encoded, encoded_blocks, sequential}
-use Rattle.lz_lazy.proofs.Driving.{all_at}
+use Rattle.lz_lazy.proofs.DrivingLemmas.{all_at}
 
 -- 1 is a length
 one_is : IsLength 1

@@ -8,8 +8,8 @@ use Rattle.lz_base.proofs.WordsLemmas.{choose_word}
 use Rattle.lz_flat.specs.FlatRuns.{Ran, went, behind, onward, step_from, step, below, source, block_length, driven}
 use Rattle.lz_flat.specs.Instructions.{Did, moved, blocked, broke, did}
 use Rattle.lz_flat.specs.Programs.{MarkedInstruction, FlatProgram, code_of}
-use Rattle.lz_lazy.proofs.Guesses.{steps_same, clamped, clamped_below}
-use Rattle.lz_lazy.proofs.Guessing.{guided, block_same}
+use Rattle.lz_lazy.proofs.GuessesLemmas.{steps_same, clamped, clamped_below}
+use Rattle.lz_lazy.proofs.GuessingLemmas.{guided, block_same}
 
 -- ---- the same inputs where instructions stand
 
