@@ -1,8 +1,8 @@
 //! Statements, declarations and parameters: what is read of a row of tokens, with the lines that trees keep, and where
 //! it ends, or the refused token.
 
-use crate::letters::tokens_of;
 use lz_expr::Refusal;
+use lz_expr_tests::letters::tokens_of;
 use lz_grammar::{read_params, read_statement};
 use lz_tree::{Declarator, Expr, First, Objects, Param, Stmt, TypeName};
 use std::alloc::{AllocError, Global};

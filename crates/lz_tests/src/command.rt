@@ -1,22 +1,13 @@
 //! What the command prints and answers, over a folder and a sink in memory. The expected texts were
 //! worked out by hand.
 
+use crate::told::{AMPLE, Told};
 use lz_base::{Bytes, Memory, Name};
 use lz_cli::{Ended, Evidence, Words, run};
 use lz_outside::{Calls, File, Files, MemoryFolder, MemorySink};
 use std::alloc::Global;
 use std::process::Abort;
 use std::test::Fail;
-
-/// A sink of more room than any report of these tests takes.
-pub const AMPLE: u64 = 1_000;
-
-/// What a call printed, and how it ended.
-#[derive(Drop)]
-pub struct Told {
-    pub text: Bytes,
-    pub ended: Ended,
-}
 
 /// Calls the command with these words, over a folder with the file `a.c` of this text.
 pub fn call(alloc: Global, words: &[&str], text: &[u8], room: u64) -> Result<Told, Memory> {

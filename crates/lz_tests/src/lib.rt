@@ -1,9 +1,7 @@
-//! Tests of the command and the tests that cross crates, and nothing else. They stand above the crates that they test, so
-//! that no crate is proved twice for them.
+//! Tests of the command on files and the tests that cross crates; `lz_replay_tests` has those of mode replay. They stand
+//! above the crates that they test, so that no crate is proved twice for them.
 #![tactic(auto)]
 
-#[cfg(test)]
-mod actions;
 #[cfg(test)]
 mod bounds;
 #[cfg(test)]
@@ -11,8 +9,5 @@ mod command;
 #[cfg(test)]
 mod lazy;
 #[cfg(test)]
-mod replays;
-#[cfg(test)]
 mod rules;
-#[cfg(test)]
-mod schedules;
+pub mod told;

@@ -1,7 +1,8 @@
 //! The rules, the slots and the cost of programs, as the command tells them. The expected lines and numbers were worked
 //! out by hand; bench/rules_random.py has them too, beside a checker that was written apart.
 
-use crate::command::{AMPLE, HAS_CHOICE, Row, SUCCESS, call, call_with, compare, compare_rows};
+use crate::command::{HAS_CHOICE, Row, SUCCESS, call, call_with, compare, compare_rows};
+use crate::told::AMPLE;
 use lz_base::{Bytes, Memory};
 use lz_outside::Calls;
 use std::alloc::Global;

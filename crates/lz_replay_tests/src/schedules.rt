@@ -2,11 +2,11 @@
 
 ghost use Rattle.std.specs.Prelude.{◌≡◌, ◌≤◌, ℕ, Option, None, List, length};
 
-use crate::command::{AMPLE, Told};
 use crate::replays::{INCREMENTS, PLAIN, call, compare};
 use lz_base::{Bytes, Memory, Name};
 use lz_cli::{Words, run};
 use lz_outside::{Calls, Failed, Folder, MemorySink};
+use lz_tests::told::{AMPLE, Told};
 use std::alloc::Global;
 use std::test::Fail;
 

@@ -1,9 +1,9 @@
 //! What mode replay prints and answers, over a folder and a sink in memory. The expected texts were worked out by hand.
 
-use crate::command::{AMPLE, Told};
 use lz_base::{Bytes, Memory, Name};
 use lz_cli::{Evidence, Words, run};
 use lz_outside::{Calls, File, Files, MemoryFolder, MemorySink, write_file};
+use lz_tests::told::{AMPLE, Told};
 use std::alloc::Global;
 use std::process::Abort;
 use std::test::Fail;
