@@ -5,8 +5,8 @@ use Rattle.std.proofs.lemmas.List.{append-nil, append_assoc, length-append, take
 use Rattle.std.proofs.lemmas.Bool.Decides.{nat_tests}
 use Rattle.lz_cnf.specs.declared.clause.Lit.{Lit}
 use Rattle.lz_cnf.specs.Models.{variable_of, negated}
-use Rattle.lz_gates.specs.Circuits.{Circuit, Assignment, value, clause_value, Agree, AreBelow, AreLits, Satisfies, Makes}
-use Rattle.lz_gates.proofs.ExtendingLemmas.{value_agrees, satisfies_front, satisfies_back, satisfies_append, below_append, makes_so}
+use Rattle.lz_gates.specs.Circuits.{Circuit, Assignment, value, clause_value, AreBelow, AreLits, Satisfies, Makes}
+use Rattle.lz_gates.proofs.ExtendingLemmas.{clause_agrees, satisfies_front, satisfies_back, satisfies_append, below_append, makes_so}
 use Rattle.lz_gates.proofs.GateLemmas.{value-negated, variable_of-negated, variable_of-positive}
 use Rattle.lz_gates.proofs.GateKindsLemmas.{gate_makes}
 use Rattle.lz_gates.proofs.ListsLemmas.{below_two}
@@ -93,14 +93,6 @@ all_more : (n : ℕ) (x : Lit) (xs : List Lit) → variable_of x < n + 1 → All
 all_more n x xs h all zero d lt = h
 all_more n x xs h all (suc k) d lt = let p = all k d (omega arith) in omega (arith, p)
 
--- who agree on the variables agree on a clause over them
-clause_settled : (n : ℕ) (a b : Assignment) (xs : List Lit) → Agree n a b → All (λ lit. variable_of lit < n) xs → clause_value a xs ≡ clause_value b xs
-unfolding clause_value
-clause_settled n a b [] h all = refl
-clause_settled n a b (x ∷ xs) h all =
-    ap (λ (v : Bool). v || clause_value a xs) (value_agrees n a b x h (all 0 x (omega arith)))
-    ∙ ap (λ (v : Bool). value b x || v) (clause_settled n a b xs h (λ k d lt. all (suc k) d (omega arith)))
-
 -- one more bit makes a word that is not 0
 bit_more : (b v : Bool) (w : ℕ) → v ≡ not (eqb w 0) → (b || v) ≡ not (eqb (bit b + 2 * w) 0)
 bit_more true v w e = odd
@@ -143,7 +135,7 @@ truth_test_makes old new t bits at more all clauses working =
     at more (clauses ∙ append_assoc old.clauses (rows t bits) ((negated t ∷ bits) ∷ []))
     (rw (length-append, length-rows t bits) (omega arith))
     (below_append n (rows t bits) ((negated t ∷ bits) ∷ []) (rows_below n t bits t_n wide) (record { some = omega arith; lits = all_more old.variables (negated t) bits nt_n all }, tt))
-    (λ a b same. clause_settled old.variables a b bits same all)
+    (λ a b same. clause_agrees old.variables a b bits same all)
     (λ a e. satisfies_append a (rows t bits) ((negated t ∷ bits) ∷ []) (rows_hold a t bits (value a t) refl e)
     (rw value-negated (last_holds (value a t) (clause_value a bits) e), tt))
     (λ a s.

@@ -82,7 +82,7 @@ impl Builder {
     }
 
     /// A conjunction by a new variable.
-    #[tactic(auto, using(crate::proofs::Lists::below_two, crate::proofs::Lists::below_three, crate::proofs::Lists::negated_below))]
+    #[tactic(auto, using(crate::proofs::ListsLemmas::below_two, crate::proofs::ListsLemmas::below_three, crate::proofs::ListsLemmas::negated_below))]
     fn new_and(&mut self, left: Lit, right: Lit) -> Result<Lit, Memory>
         requires left { IsLit self.old left }
         requires right { IsLit self.old right }
@@ -127,7 +127,7 @@ impl Builder {
     }
 
     /// Whether exactly one is true, by a new variable.
-    #[tactic(auto, using(crate::proofs::Lists::below_two, crate::proofs::Lists::below_three, crate::proofs::Lists::negated_below))]
+    #[tactic(auto, using(crate::proofs::ListsLemmas::below_two, crate::proofs::ListsLemmas::below_three, crate::proofs::ListsLemmas::negated_below))]
     fn new_xor(&mut self, left: Lit, right: Lit) -> Result<Lit, Memory>
         requires left { IsLit self.old left }
         requires right { IsLit self.old right }
@@ -173,7 +173,7 @@ impl Builder {
     }
 
     /// A choice by a new variable. The last two clauses follow from the others, and let unit propagation see equal sides.
-    #[tactic(auto, using(crate::proofs::Lists::below_two, crate::proofs::Lists::below_three, crate::proofs::Lists::negated_below))]
+    #[tactic(auto, using(crate::proofs::ListsLemmas::below_two, crate::proofs::ListsLemmas::below_three, crate::proofs::ListsLemmas::negated_below))]
     fn new_choice(&mut self, test: Lit, yes: Lit, no: Lit) -> Result<Lit, Memory>
         requires test { IsLit self.old test }
         requires yes { IsLit self.old yes }
@@ -199,7 +199,7 @@ impl Builder {
     }
 
     /// A choice that is none of its operands. Where a side is a constant, it is a conjunction.
-    #[tactic(auto, using(crate::proofs::Lists::negated_below))]
+    #[tactic(auto, using(crate::proofs::ListsLemmas::negated_below))]
     fn open_choice(&mut self, test: Lit, yes: Lit, no: Lit) -> Result<Lit, Memory>
         requires test { IsLit self.old test }
         requires yes { IsLit self.old yes }
