@@ -14,9 +14,9 @@ use Rattle.lz_turns.specs.Seen.{Seen, Alike}
 use Rattle.lz_turns.specs.Resumed.{stage_trace, with_part, resumed, behind, moved, Comes, PartComes, Turned, again, stopped, behind_turn, TurnNears, Turns}
 use Rattle.lz_turns.proofs.SeenLemmas.{alike_same, alike_back, alike_alike, alike_then, alike_behind, alike_value, alike_halts, alike_leaves, alike_assoc, alike_chooses, alike_choice}
 use Rattle.lz_tree.specs.Calls.{expression_calls}
-use Rattle.lz_turns.specs.Nears.{Falls, IsTold, part_calls, calls_left, Nears}
+use Rattle.lz_turns.specs.Nears.{Falls, part_calls, calls_left, Nears}
 use Rattle.lz_turns.specs.Ranks.{count, rank_of, rank}
-use Rattle.lz_turns.specs.Turning.{turned_by, StaysAt, Entered, ComesBehind, GoesDown}
+use Rattle.lz_turns.specs.Turning.{turned_by, StaysAt, Entered, GoesDown}
 use Rattle.lz_turns.proofs.MovesLemmas.{turns_so}
 use Rattle.lz_turns.proofs.RanksLemmas.{turn_falls}
 use Rattle.lz_turns.proofs.NearsLemmas.{step_over, nears_more, turn_nears_more, told_nears, within_nears, entered_nears}
@@ -156,25 +156,28 @@ entered e stage before after came turned part is =
       near = subst (λ (x : Turned). TurnNears e (suc (rank e stage) * part_calls e) x) (sym is) (entered_near e stage before after came (part_of e (slot_of stage)) refl part);
     }
 
--- within a part, and behind it
-pub within_comes : (e : ScopedExpression) (stage : Stage) (point : Point) (given : ℕ) (before middle after : Locals) (came end : Came) (turned : Turned)
-    → PartComes (part_of e (slot_of stage)) point given before came middle → turned ≡ turned_by stage came → ComesBehind e turned middle end after → Comes e (within stage point) given before end after
-within_comes e stage point given before middle after came end turned part is on =
+-- within a part that is not done
+pub part_within : (e : ScopedExpression) (stage : Stage) (point : Point) (given : ℕ) (before after : Locals) (came end : Came)
+    → PartComes (part_of e (slot_of stage)) point given before came after → turned_by stage came ≡ stopped end → Comes e (within stage point) given before end after
+part_within e stage point given before after came end part is =
     record {
-      same = λ p n depth. alike_alike
-          (subst (λ (x : Turned). Alike (resumed (calls_within p n depth) e (within stage point) given) before (behind_turn (calls_within p n depth) e x) middle) (sym is) (part_turns e stage point given before middle came part p n depth))
-          (on.same p n depth);
-      near = on.near (calls_left (within stage point) e)
-          (subst (λ (x : Turned). TurnNears e (calls_left (within stage point) e) x) (sym is) (within_near e stage point given before middle came (part_of e (slot_of stage)) refl part));
+      same = λ p n depth. subst (λ (x : Turned). Alike (resumed (calls_within p n depth) e (within stage point) given) before (behind_turn (calls_within p n depth) e x) after) is
+          (part_turns e stage point given before after came part p n depth);
+      near = subst (λ (x : Turned). TurnNears e (calls_left (within stage point) e) x) is (within_near e stage point given before after came (part_of e (slot_of stage)) refl part);
     }
 
--- behind a turn that leads to a stage, and behind one that came so far
-pub behind_again : (e : ScopedExpression) (stage : Stage) (v : ℕ) (before after : Locals) (came : Came) (turned : Turned) → turned ≡ again stage v → Comes e (at_stage stage) v before came after → ComesBehind e turned before came after
-behind_again e stage v before after came turned is on =
-    subst (λ (x : Turned). ComesBehind e x before came after) (sym is) (record { same = λ p n depth. on.same p n depth; near = λ left low. nears_more e (calls_left (at_stage stage) e) left came on.near low })
-
-pub behind_stopped : (e : ScopedExpression) (before : Locals) (came : Came) (turned : Turned) → turned ≡ stopped came → ComesBehind e turned before came before
-behind_stopped e before came turned is = subst (λ (x : Turned). ComesBehind e x before came before) (sym is) (record { same = λ p n depth. alike_same _ before; near = λ left h. h })
+-- behind a part that is done
+pub part_behind : (e : ScopedExpression) (stage : Stage) (point : Point) (given v : ℕ) (before middle after : Locals) (came end : Came)
+    → PartComes (part_of e (slot_of stage)) point given before came middle → came ≡ settles v → Comes e (at_stage stage) v middle end after → Comes e (within stage point) given before end after
+part_behind e stage point given v before middle after came end part is on =
+    let done_so : turned_by stage came ≡ again stage v = ap (turned_by stage) is in
+    record {
+      same = λ p n depth. alike_alike
+          (subst (λ (x : Turned). Alike (resumed (calls_within p n depth) e (within stage point) given) before (behind_turn (calls_within p n depth) e x) middle) done_so (part_turns e stage point given before middle came part p n depth))
+          (on.same p n depth);
+      near = nears_more e (calls_left (at_stage stage) e) (calls_left (within stage point) e) end on.near
+          (subst (λ (x : Turned). TurnNears e (calls_left (within stage point) e) x) done_so (within_near e stage point given before middle came (part_of e (slot_of stage)) refl part));
+    }
 
 -- ---- one turn
 

@@ -7,3 +7,4 @@ pub mod PartsLemmas
 pub mod RanksLemmas
 pub mod SeenLemmas
 pub mod StepsLemmas
+pub mod WentsLemmas

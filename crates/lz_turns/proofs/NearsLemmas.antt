@@ -1,11 +1,11 @@
 -- Each call brings an expression nearer to its end: it makes so many at most, and its parts make fewer.
-use Rattle.std.proofs.Common.{◌≡◌, ℕ, zero, suc, ◌+◌, ◌*◌, ◌-◌, ◌<◌, ◌≤◌, List, [], ◌∷◌, ◌++◌, Option, Some, None, refl, sym, ◌∙◌, ap, subst, arith}
+use Rattle.std.proofs.Common.{◌≡◌, ℕ, zero, suc, ◌+◌, ◌*◌, ◌-◌, ◌<◌, ◌≤◌, List, [], ◌++◌, Option, Some, None, refl, sym, ap, subst, arith}
 use Rattle.std.specs.List.{Contains}
 use Rattle.std.proofs.lemmas.List.Elements.{Contains-append_left, Contains-append_right}
 use Rattle.std.proofs.lemmas.Nat.{mul-le}
 use Rattle.lz_tree.specs.Calls.{called, expression_calls, lvalue_calls, expressions_calls}
 use Rattle.lz_tree.specs.ScopedTrees.{ScopedExpression, constant, null, text, object, address, paren, unary, cast, binary, choose, assign, step, call, Lvalue, lvalue, whole, element, ScopedExpressions, none, and}
-use Rattle.lz_turns.specs.Stages.{Stage, start, given, Point, at_stage, within, Came, settles, acts, reads, asks, signals, creates, calls_on, fails, refuses, quits, stops, inside}
+use Rattle.lz_turns.specs.Stages.{Stage, start, given, Point, at_stage, within, Came, settles, acts, reads, asks, signals, creates, calls_on, fails, refuses, quits, stops}
 use Rattle.lz_turns.specs.Moves.{Slot, no_slot, index_slot, first_slot, second_slot, third_slot, argument_slot, handed_slot, slot_of, argument_at, target_index, index_of, first_of_node, second_of_node, third_of_node, arguments_of, index_of_argument, part_of}
 use Rattle.lz_turns.specs.Ranks.{count, rank}
 use Rattle.lz_turns.specs.Resumed.{Turned, again, stopped, TurnNears}

@@ -8,3 +8,4 @@ pub mod Seen
 pub mod Sizes
 pub mod Stages
 pub mod Turning
+pub mod Wents

@@ -5,7 +5,7 @@ use Rattle.lz_tree.specs.Calls.{expression_calls}
 use Rattle.lz_tree.specs.ScopedTrees.{ScopedExpression}
 use Rattle.lz_model.specs.declared.actions.Action.{Action}
 use Rattle.lz_model.specs.declared.actions.Action.TheVariants.{Loc, Input, Check, Assume, Rd, Wr, Reset, Lock, Unlock, Park, Wake, Signal, Broadcast, Create, Join, HoldOn, HoldOff, End}
-use Rattle.lz_turns.specs.Stages.{given, start, Point, at_stage, within, Came, settles, acts, reads, asks, signals, creates, calls_on, fails, refuses, quits, stops, Move, enters, goes, comes}
+use Rattle.lz_turns.specs.Stages.{given, Point, at_stage, within, Came, settles, acts, reads, asks, signals, creates, calls_on, fails, refuses, quits, stops, Move, enters, goes, comes}
 use Rattle.lz_turns.specs.Moves.{slot_of, part_of}
 use Rattle.lz_turns.specs.Ranks.{rank_of, rank}
 use Rattle.lz_turns.specs.Sizes.{size}

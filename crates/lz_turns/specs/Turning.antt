@@ -5,15 +5,17 @@ use Rattle.lz_model.specs.CodeTraces.{Locals}
 use Rattle.lz_model.specs.Programs.{calls_within}
 use Rattle.lz_turns.specs.declared.advancing.Turned as held
 use Rattle.lz_turns.specs.declared.advancing.Turned.TheVariants.{Again, Stopped}
-use Rattle.lz_turns.specs.Stages.{Stage, stage_of, Came, settles, acts, reads, asks, signals, creates, calls_on, fails, refuses, quits, stops, came_of, enters, inside}
+use Rattle.lz_turns.specs.Stages.{Stage, stage_of, Point, Came, settles, acts, reads, asks, signals, creates, calls_on, fails, refuses, quits, stops, enters, inside}
+use Rattle.lz_turns.specs.Wents.{went_of}
 use Rattle.lz_turns.specs.Seen.{Alike}
-use Rattle.lz_turns.specs.Nears.{part_calls, Nears}
+use Rattle.lz_turns.specs.Nears.{part_calls}
 use Rattle.lz_turns.specs.Ranks.{rank_of, rank}
-use Rattle.lz_turns.specs.Resumed.{Turned, again, stopped, moved, behind, behind_turn, TurnNears}
+use Rattle.lz_turns.specs.Resumed.{Turned, again, stopped, moved, behind_turn, TurnNears}
 
-abbrev pub turned_of : held.Turned → Turned
-turned_of (Again stage value) = again (stage_of stage) value
-turned_of (Stopped came) = stopped (came_of came)
+-- what came so far stands at this place
+abbrev pub turned_of : held.Turned → Point → Turned
+turned_of (Again stage value) point = again (stage_of stage) value
+turned_of (Stopped went) point = stopped (went_of went point)
 
 -- a node whose part came so far: at the stage behind the part, with its value, or still within it
 abbrev pub turned_by : Stage → Came → Turned
@@ -39,11 +41,6 @@ pub record Entered (e : ScopedExpression) (stage : Stage) (before : Locals) (tur
   pub same : (p : ScopedProgram) (n depth : ℕ) → Alike (moved (calls_within p n depth) e (enters stage)) before (behind_turn (calls_within p n depth) e turned) after
   pub stays : StaysAt stage turned
   pub near : TurnNears e (suc (rank e stage) * part_calls e) turned
-
--- a node comes so far behind this turn
-pub record ComesBehind (e : ScopedExpression) (turned : Turned) (before : Locals) (came : Came) (after : Locals) : Type 0 where
-  pub same : (p : ScopedProgram) (n depth : ℕ) → Alike (behind_turn (calls_within p n depth) e turned) before (behind (calls_within p n depth) e came) after
-  pub near : (left : ℕ) → TurnNears e left turned → Nears e left came
 
 -- a turn leads below this rank
 abbrev pub GoesDown : ℕ → ℕ → Turned → Type 0

@@ -1,13 +1,14 @@
 ghost use Rattle.std.specs.Prelude.{◌≡◌, IfOk};
 ghost use Rattle.lz_tree.specs.ScopedTrees.{scoped_expression};
-ghost use Rattle.lz_turns.specs.Stages.{stage_of, point_of, came_of, move_of, locals_of, inside, value_if_done};
+ghost use Rattle.lz_turns.specs.Stages.{stage_of, point_of, came_of, move_of, locals_of};
 ghost use Rattle.lz_turns.specs.Stages as stages;
 ghost use Rattle.lz_turns.specs.Moves as spec;
 ghost use Rattle.lz_turns.specs.Moves.{turn_of, left_by, slot_of, part_of};
 ghost use Rattle.lz_turns.specs.Fits.{IsFit};
 ghost use Rattle.lz_turns.specs.Resumed.{Comes, PartComes, Turns};
 ghost use Rattle.lz_turns.specs.Ranks.{rank, count};
-ghost use Rattle.lz_turns.specs.Turning.{turned_of, turned_by, Entered, ComesBehind, GoesDown};
+ghost use Rattle.lz_turns.specs.Turning.{turned_of, turned_by, Entered, GoesDown};
+ghost use Rattle.lz_turns.specs.Wents.{went_of};
 
 use crate::calls::{
     argued_move, arguing_move, argument_move, arguments, called, calling_move, handed_move,
@@ -19,9 +20,11 @@ use crate::nodes::{
 };
 use crate::parts::part_at;
 use crate::stage::{Came, Locals, Move, Place, Stage};
+use crate::went::{Went, came_at, stand_behind, stand_within, value_of};
 use lz_base::Memory;
 use lz_tree::ScopedExpr;
 use std::alloc::Global;
+use std::mem;
 
 /// A node that is done with this value.
 fn done(value: u32) -> Move
@@ -95,176 +98,94 @@ fn moved(
     }
 }
 
-/// The value of what is done.
-fn done_value(came: &Came) -> Option<u32>
-    ensures { result ≡ value_if_done (came_of came.now) }
-{
-    match came {
-        Came::Done { value } => Some(*value),
-        Came::Acts { .. }
-        | Came::Reads { .. }
-        | Came::Asks { .. }
-        | Came::Signals { .. }
-        | Came::Creates { .. }
-        | Came::Calls { .. }
-        | Came::Fails { .. }
-        | Came::Refuses { .. }
-        | Came::Exits
-        | Came::Stops => None,
-    }
-}
-
-/// A place in a part, behind which its node is at this stage.
-fn within(alloc: Global, stage: Stage, inner: Place) -> Result<Place, Memory>
-    ensures { IfOk result (λ place. point_of place ≡ stages.within (stage_of stage) (point_of inner)) }
-{
-    let inner = Box::new(alloc, inner)?;
-    Ok(Place::Within { stage, inner })
-}
-
-/// What came so far in a part, behind which its node is at this stage.
-fn came_within(alloc: Global, stage: Stage, came: Came) -> Result<Came, Memory>
-    ensures { IfOk result (λ whole. came_of whole ≡ inside (stage_of stage) (came_of came)) }
-{
-    match came {
-        Came::Done { value } => Ok(Came::Done { value }),
-        Came::Acts {
-            action,
-            line,
-            place,
-        } => {
-            let place = within(alloc, stage, place)?;
-            Ok(Came::Acts {
-                action,
-                line,
-                place,
-            })
-        }
-        Came::Reads { cell, line, place } => {
-            let place = within(alloc, stage, place)?;
-            Ok(Came::Reads { cell, line, place })
-        }
-        Came::Asks { line, kind, place } => {
-            let place = within(alloc, stage, place)?;
-            Ok(Came::Asks { line, kind, place })
-        }
-        Came::Signals { cond, line, place } => {
-            let place = within(alloc, stage, place)?;
-            Ok(Came::Signals { cond, line, place })
-        }
-        Came::Creates {
-            start,
-            value,
-            line,
-            place,
-        } => {
-            let place = within(alloc, stage, place)?;
-            Ok(Came::Creates {
-                start,
-                value,
-                line,
-                place,
-            })
-        }
-        Came::Calls {
-            function,
-            kinds,
-            values,
-            place,
-        } => {
-            let place = within(alloc, stage, place)?;
-            Ok(Came::Calls {
-                function,
-                kinds,
-                values,
-                place,
-            })
-        }
-        Came::Fails { kind, line } => Ok(Came::Fails { kind, line }),
-        Came::Refuses { line } => Ok(Came::Refuses { line }),
-        Came::Exits => Ok(Came::Exits),
-        Came::Stops => Ok(Came::Stops),
-    }
-}
-
 /// How far one turn of a node came.
 #[derive(Drop)]
 pub enum Turned {
     /// To another stage, with this value.
     Again { stage: Stage, value: u32 },
-    Stopped { came: Came },
+    Stopped { went: Went },
 }
 
-/// What a turn leads to where the part behind which its node comes to this stage came so far.
-fn behind_part(alloc: Global, stage: Stage, came: Came) -> Result<Turned, Memory>
-    ensures { IfOk result (λ t. turned_of t ≡ turned_by (stage_of stage) (came_of came)) }
+/// What a turn leads to where the part behind which its node comes to this stage came so far, and stands at this place.
+fn behind_part(
+    alloc: Global,
+    stage: Stage,
+    went: Went,
+    inner: Place,
+    place: &mut Place,
+) -> Result<Turned, Memory>
+    ensures { IfOk result (λ t. turned_of t (point_of place.new) ≡ turned_by (stage_of stage) (went_of went (point_of inner))) }
 {
-    match done_value(&came) {
+    match value_of(&went) {
         Some(value) => Ok(Turned::Again { stage, value }),
         None => {
-            let came = came_within(alloc, stage, came)?;
-            Ok(Turned::Stopped { came })
+            stand_within(alloc, stage, inner, place)?;
+            Ok(Turned::Stopped { went })
         }
     }
 }
 
 /// Goes on in the part behind which a node comes to this stage.
-#[cycle(advance)]
+#[cycle(advance_in)]
 fn part(
     alloc: Global,
     e: &ScopedExpr,
     stage: &Stage,
-    place: Place,
+    place: &mut Place,
     given: u32,
     locals: &mut Locals,
-) -> Result<Came, Memory>
+) -> Result<Went, Memory>
     requires { IsFit (scoped_expression e.now) }
-    ensures { IfOk result (λ came. PartComes (part_of (scoped_expression e.now) (slot_of (stage_of stage.now))) (point_of place) given (locals_of locals.old) (came_of came) (locals_of locals.new)) }
+    ensures { IfOk result (λ went. PartComes (part_of (scoped_expression e.now) (slot_of (stage_of stage.now))) (point_of place.old) given (locals_of locals.old) (went_of went (point_of place.new)) (locals_of locals.new)) }
 {
     match part_at(e, stage) {
-        None => Ok(Came::Stops),
+        None => Ok(Went::Stops),
         Some(inner) => {
-            let came = advance(alloc, inner, place, given, locals)?;
-            Ok(came)
+            let went = advance_in(alloc, inner, place, given, locals)?;
+            Ok(went)
         }
     }
 }
 
 /// Enters the part behind which a node comes to this stage.
-#[cycle(advance)]
-fn enter(alloc: Global, e: &ScopedExpr, stage: Stage, locals: &mut Locals) -> Result<Turned, Memory>
+#[cycle(advance_in)]
+fn enter(
+    alloc: Global,
+    e: &ScopedExpr,
+    stage: Stage,
+    place: &mut Place,
+    locals: &mut Locals,
+) -> Result<Turned, Memory>
     requires { IsFit (scoped_expression e.now) }
-    ensures { IfOk result (λ t. Entered (scoped_expression e.now) (stage_of stage) (locals_of locals.old) (turned_of t) (locals_of locals.new)) }
+    ensures { IfOk result (λ t. Entered (scoped_expression e.now) (stage_of stage) (locals_of locals.old) (turned_of t (point_of place.new)) (locals_of locals.new)) }
 {
-    let came = part(
-        alloc,
-        e,
-        &stage,
-        Place::At {
-            stage: Stage::Start,
-        },
-        0,
-        locals,
-    )?;
-    let turned = behind_part(alloc, stage, came)?;
+    let mut inner = Place::At {
+        stage: Stage::Start,
+    };
+    let went = part(alloc, e, &stage, &mut inner, 0, locals)?;
+    let turned = behind_part(alloc, stage, went, inner, place)?;
     Ok(turned)
 }
 
 /// One turn of a node from a stage on, with this value.
-#[cycle(advance)]
+#[cycle(advance_in)]
 fn turn(
     alloc: Global,
     e: &ScopedExpr,
     stage: Stage,
     value: u32,
+    place: &mut Place,
     locals: &mut Locals,
 ) -> Result<Turned, Memory>
     requires { IsFit (scoped_expression e.now) }
-    ensures same { IfOk result (λ t. Turns (scoped_expression e.now) (stage_of stage) value (locals_of locals.old) (turned_of t) (locals_of locals.new)) }
-    ensures down { IfOk result (λ t. GoesDown (count (spec.arguments_of (scoped_expression e.now))) (rank (scoped_expression e.now) (stage_of stage)) (turned_of t)) }
+    ensures same { IfOk result (λ t. Turns (scoped_expression e.now) (stage_of stage) value (locals_of locals.old) (turned_of t (point_of place.new)) (locals_of locals.new)) }
+    ensures down { IfOk result (λ t. GoesDown (count (spec.arguments_of (scoped_expression e.now))) (rank (scoped_expression e.now) (stage_of stage)) (turned_of t (point_of place.new))) }
 {
     match moved(alloc, e, stage, value, locals)? {
-        Move::Comes { came } => Ok(Turned::Stopped { came }),
+        Move::Comes { came } => {
+            let went = stand_behind(came, place);
+            Ok(Turned::Stopped { went })
+        }
         Move::Goes {
             stage: next,
             value: held,
@@ -273,28 +194,29 @@ fn turn(
             value: held,
         }),
         Move::Enters { stage: next } => {
-            let turned = enter(alloc, e, next, locals)?;
+            let turned = enter(alloc, e, next, place, locals)?;
             Ok(turned)
         }
     }
 }
 
-/// Goes on from a stage, with this value, up to the next action.
-#[cycle(advance)]
+/// Goes on from a stage, with this value, up to the next action. Where it stands then is written to this place.
+#[cycle(advance_in)]
 fn go_on(
     alloc: Global,
     e: &ScopedExpr,
     stage: Stage,
     value: u32,
+    place: &mut Place,
     locals: &mut Locals,
-) -> Result<Came, Memory>
+) -> Result<Went, Memory>
     requires { IsFit (scoped_expression e.now) }
-    ensures { IfOk result (λ came. Comes (scoped_expression e.now) (stages.at_stage (stage_of stage)) value (locals_of locals.old) (came_of came) (locals_of locals.new)) }
+    ensures { IfOk result (λ went. Comes (scoped_expression e.now) (stages.at_stage (stage_of stage)) value (locals_of locals.old) (went_of went (point_of place.new)) (locals_of locals.new)) }
 {
     let mut now = stage;
     let mut held = value;
     loop {
-        match turn(alloc, e, now, held, locals)? {
+        match turn(alloc, e, now, held, place, locals)? {
             Turned::Again {
                 stage: next,
                 value: given,
@@ -302,35 +224,47 @@ fn go_on(
                 now = next;
                 held = given;
             }
-            Turned::Stopped { came } => return Ok(came),
+            Turned::Stopped { went } => return Ok(went),
         }
     }
 }
 
-/// Goes on behind a part that came so far.
-#[cycle(advance)]
-fn go_behind(
+/// Goes on from this place, which becomes the one behind the next action. The places of the nodes around that action
+/// stay as they are.
+#[cycle(advance_in)]
+fn advance_in(
     alloc: Global,
     e: &ScopedExpr,
-    turned: Turned,
+    place: &mut Place,
+    given: u32,
     locals: &mut Locals,
-) -> Result<Came, Memory>
+) -> Result<Went, Memory>
     requires { IsFit (scoped_expression e.now) }
-    ensures { IfOk result (λ came. ComesBehind (scoped_expression e.now) (turned_of turned) (locals_of locals.old) (came_of came) (locals_of locals.new)) }
+    ensures { IfOk result (λ went. Comes (scoped_expression e.now) (point_of place.old) given (locals_of locals.old) (went_of went (point_of place.new)) (locals_of locals.new)) }
 {
-    match turned {
-        Turned::Again { stage, value } => {
-            let came = go_on(alloc, e, stage, value, locals)?;
-            Ok(came)
+    match place {
+        Place::At { stage } => {
+            let stage = mem::replace(stage, Stage::Start);
+            let went = go_on(alloc, e, stage, given, place, locals)?;
+            Ok(went)
         }
-        Turned::Stopped { came } => Ok(came),
+        Place::Within { stage, inner } => {
+            let went = part(alloc, e, stage, inner, given, locals)?;
+            match value_of(&went) {
+                None => Ok(went),
+                Some(value) => {
+                    let stage = mem::replace(stage, Stage::Start);
+                    let went = go_on(alloc, e, stage, value, place, locals)?;
+                    Ok(went)
+                }
+            }
+        }
     }
 }
 
 /// Goes on from a place of an expression, where this value is given, up to the next action or to the end. What the
 /// expression may do from there is what it may do where it came so far, Loc left out, however deep its calls may go.
 /// The time is that of the way down to the place, and of the steps that are no actions.
-#[cycle(advance)]
 pub fn advance(
     alloc: Global,
     e: &ScopedExpr,
@@ -341,16 +275,7 @@ pub fn advance(
     requires { IsFit (scoped_expression e.now) }
     ensures { IfOk result (λ came. Comes (scoped_expression e.now) (point_of place) given (locals_of locals.old) (came_of came) (locals_of locals.new)) }
 {
-    match place {
-        Place::At { stage } => {
-            let came = go_on(alloc, e, stage, given, locals)?;
-            Ok(came)
-        }
-        Place::Within { stage, inner } => {
-            let came = part(alloc, e, &stage, Box::into_inner(inner), given, locals)?;
-            let turned = behind_part(alloc, stage, came)?;
-            let came = go_behind(alloc, e, turned, locals)?;
-            Ok(came)
-        }
-    }
+    let mut place = place;
+    let went = advance_in(alloc, e, &mut place, given, locals)?;
+    Ok(came_at(went, place))
 }

@@ -10,6 +10,7 @@ mod nodes;
 mod parts;
 mod stage;
 mod values;
+mod went;
 
 pub use advancing::advance;
 pub use laws::{a_turn_of_a_node, turns_end};

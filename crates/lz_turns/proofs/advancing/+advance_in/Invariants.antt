@@ -4,25 +4,22 @@ use Rattle.lz_turns.specs.Stages.{stage_of, locals_of}
 use Rattle.lz_turns.specs.Resumed.{Turns, again}
 use Rattle.lz_turns.specs.Ranks.{rank}
 use Rattle.lz_turns.specs.Sizes.{size}
-use Rattle.lz_turns.proofs.advancing.+advance.Given as goal
+use Rattle.lz_turns.proofs.advancing.+advance_in.Given as goal
 
 abbrev pub decreases-part : goal.decreases-part
-decreases-part l = 6 * size (scoped_expression l.e.now)
+decreases-part l = 5 * size (scoped_expression l.e.now)
 
 abbrev pub decreases-enter : goal.decreases-enter
-decreases-enter l = 6 * size (scoped_expression l.e.now) + 1
+decreases-enter l = 5 * size (scoped_expression l.e.now) + 1
 
 abbrev pub decreases-turn : goal.decreases-turn
-decreases-turn l = 6 * size (scoped_expression l.e.now) + 2
+decreases-turn l = 5 * size (scoped_expression l.e.now) + 2
 
 abbrev pub decreases-go_on : goal.decreases-go_on
-decreases-go_on l = 6 * size (scoped_expression l.e.now) + 3
+decreases-go_on l = 5 * size (scoped_expression l.e.now) + 3
 
-abbrev pub decreases-go_behind : goal.decreases-go_behind
-decreases-go_behind l = 6 * size (scoped_expression l.e.now) + 4
-
-abbrev pub decreases-advance : goal.decreases-advance
-decreases-advance l = 6 * size (scoped_expression l.e.now) + 5
+abbrev pub decreases-advance_in : goal.decreases-advance_in
+decreases-advance_in l = 5 * size (scoped_expression l.e.now) + 4
 
 -- the node came to this stage
 abbrev pub invariant-go_on-loop-next : goal.invariant-go_on-loop-next
