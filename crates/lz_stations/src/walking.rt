@@ -1,10 +1,9 @@
 ghost use Rattle.std.specs.Prelude.{◌≡◌, IfOk};
 ghost use Rattle.lz_tree.specs.ScopedTrees.{scoped_statement};
 ghost use Rattle.lz_turns.specs.Stages.{point_of, came_of, locals_of};
-ghost use Rattle.lz_turns.specs.Stages as stages;
 ghost use Rattle.lz_turns.specs.Resumed.{PartComes};
 ghost use Rattle.lz_stations.specs.Stations as at;
-ghost use Rattle.lz_stations.specs.Stations.{at_station, in_part, pauses};
+ghost use Rattle.lz_stations.specs.Stations.{in_part, pauses};
 ghost use Rattle.lz_stations.specs.StationMoves as spec;
 ghost use Rattle.lz_stations.specs.StationsHeld.{flow_of, station_of};
 ghost use Rattle.lz_stations.specs.StationRanks.{station_rank};
