@@ -4,6 +4,8 @@ use Rattle.lz_stations.specs.declared.footing.Pause as held_pause
 use Rattle.lz_stations.specs.declared.footing.Pause.TheVariants as code_pauses
 use Rattle.lz_stations.specs.declared.footing.Reached as held_reached
 use Rattle.lz_stations.specs.declared.footing.Reached.TheVariants as code_reached
+use Rattle.lz_stations.specs.declared.walking.Went as held_went
+use Rattle.lz_stations.specs.declared.walking.Went.TheVariants as code_went
 use Rattle.lz_stations.specs.declared.walking.Stepped as held_stepped
 use Rattle.lz_stations.specs.declared.walking.Stepped.TheVariants.{Again, Stopped}
 use Rattle.lz_turns.specs.Stages.{point_of}
@@ -32,6 +34,16 @@ reached_of (code_reached.Refuses line) = at.refuses line
 reached_of code_reached.Exits = at.quits
 reached_of code_reached.Stops = at.stops
 
-abbrev pub stepped_of : held_stepped.Stepped → Stepped
-stepped_of (Again station value flow) = again (station_of station) value (flow_of flow)
-stepped_of (Stopped reached) = stopped (reached_of reached)
+-- how far a statement came that stands here behind a pause
+abbrev pub went_of : held_went.Went → at.Footing → at.Reached
+went_of (code_went.Leads flow) footing = at.leads (flow_of flow)
+went_of (code_went.Pauses pause) footing = at.pauses (pause_of pause) footing
+went_of (code_went.Fails kind line) footing = at.fails kind line
+went_of (code_went.Refuses line) footing = at.refuses line
+went_of code_went.Exits footing = at.quits
+went_of code_went.Stops footing = at.stops
+
+-- what a step leads to, where the statement stands here behind a pause
+abbrev pub stepped_of : held_stepped.Stepped → at.Footing → Stepped
+stepped_of (Again station value flow) footing = again (station_of station) value (flow_of flow)
+stepped_of (Stopped went) footing = stopped (went_of went footing)

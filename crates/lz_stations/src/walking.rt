@@ -1,25 +1,37 @@
 ghost use Rattle.std.specs.Prelude.{◌≡◌, IfOk};
 ghost use Rattle.lz_tree.specs.ScopedTrees.{scoped_statement};
 ghost use Rattle.lz_turns.specs.Stages.{point_of, came_of, locals_of};
-ghost use Rattle.lz_turns.specs.Stages as stages;
 ghost use Rattle.lz_turns.specs.Resumed.{PartComes};
-ghost use Rattle.lz_stations.specs.Stations.{at_station, pauses};
+ghost use Rattle.lz_stations.specs.Stations as at;
+ghost use Rattle.lz_stations.specs.Stations.{in_part, pauses};
 ghost use Rattle.lz_stations.specs.StationMoves as spec;
 ghost use Rattle.lz_stations.specs.StationsHeld.{flow_of, station_of};
 ghost use Rattle.lz_stations.specs.StationRanks.{station_rank};
 ghost use Rattle.lz_stations.specs.StatementFits.{IsFitStatement};
 ghost use Rattle.lz_stations.specs.Walks.{StatementComes, InnerComes, again, stopped, Steps, stepped_by_value, stepped_by_part, EnteredValue, EnteredPart, ComesBehind, GoesDown};
-ghost use Rattle.lz_stations.specs.WalksHeld.{footing_of, pause_of, reached_of, stepped_of};
+ghost use Rattle.lz_stations.specs.WalksHeld.{footing_of, pause_of, reached_of, went_of, stepped_of};
 
 use crate::footing::{Footing, Pause, Reached};
 use crate::places::{statement_part_at, value_at};
 use crate::statements::station_move;
 use crate::station::{Flow, Station, StationMove};
 use crate::writes::station_writes;
-use lz_base::Memory;
+use lz_base::{BreakKind, Memory};
 use lz_tree::ScopedStmt;
 use lz_turns::{Came, Locals, Place, Stage, advance};
 use std::alloc::Global;
+use std::mem;
+
+/// How far a statement came, but for where it stands behind a pause.
+#[derive(Drop)]
+pub enum Went {
+    Leads { flow: Flow },
+    Pauses { pause: Pause },
+    Fails { kind: BreakKind, line: u32 },
+    Refuses { line: u32 },
+    Exits,
+    Stops,
+}
 
 /// What one step leads to.
 #[derive(Drop)]
@@ -31,22 +43,23 @@ pub enum Stepped {
         flow: Flow,
     },
     Stopped {
-        reached: Reached,
+        went: Went,
     },
 }
 
 /// A pause, behind which a statement stands here.
-fn waits(pause: Pause, footing: Footing) -> Stepped
-    ensures { stepped_of result ≡ stopped (pauses (pause_of pause) (footing_of footing)) }
+fn waits(pause: Pause, here: Footing, footing: &mut Footing) -> Stepped
+    ensures { stepped_of result (footing_of footing.new) ≡ stopped (pauses (pause_of pause) (footing_of here)) }
 {
+    *footing = here;
     Stepped::Stopped {
-        reached: Reached::Pauses { pause, footing },
+        went: Went::Pauses { pause },
     }
 }
 
 /// A statement the expression of which came so far.
-fn behind_value(station: Station, came: Came) -> Stepped
-    ensures { stepped_of result ≡ stepped_by_value (station_of station) (came_of came) }
+fn behind_value(station: Station, came: Came, footing: &mut Footing) -> Stepped
+    ensures { stepped_of result (footing_of footing.new) ≡ stepped_by_value (station_of station) (came_of came) }
 {
     match came {
         Came::Done { value } => Stepped::Again {
@@ -61,6 +74,7 @@ fn behind_value(station: Station, came: Came) -> Stepped
         } => waits(
             Pause::Acts { action, line },
             Footing::InValue { station, inner },
+            footing,
         ),
         Came::Reads {
             cell,
@@ -69,6 +83,7 @@ fn behind_value(station: Station, came: Came) -> Stepped
         } => waits(
             Pause::Reads { cell, line },
             Footing::InValue { station, inner },
+            footing,
         ),
         Came::Asks {
             line,
@@ -77,6 +92,7 @@ fn behind_value(station: Station, came: Came) -> Stepped
         } => waits(
             Pause::Asks { line, kind },
             Footing::InValue { station, inner },
+            footing,
         ),
         Came::Signals {
             cond,
@@ -85,6 +101,7 @@ fn behind_value(station: Station, came: Came) -> Stepped
         } => waits(
             Pause::Signals { cond, line },
             Footing::InValue { station, inner },
+            footing,
         ),
         Came::Creates {
             start,
@@ -94,6 +111,7 @@ fn behind_value(station: Station, came: Came) -> Stepped
         } => waits(
             Pause::Creates { start, value, line },
             Footing::InValue { station, inner },
+            footing,
         ),
         Came::Calls {
             function,
@@ -107,48 +125,71 @@ fn behind_value(station: Station, came: Came) -> Stepped
                 values,
             },
             Footing::InValue { station, inner },
+            footing,
         ),
         Came::Fails { kind, line } => Stepped::Stopped {
-            reached: Reached::Fails { kind, line },
+            went: Went::Fails { kind, line },
         },
         Came::Refuses { line } => Stepped::Stopped {
-            reached: Reached::Refuses { line },
+            went: Went::Refuses { line },
         },
-        Came::Exits => Stepped::Stopped {
-            reached: Reached::Exits,
-        },
-        Came::Stops => Stepped::Stopped {
-            reached: Reached::Stops,
-        },
+        Came::Exits => Stepped::Stopped { went: Went::Exits },
+        Came::Stops => Stepped::Stopped { went: Went::Stops },
     }
 }
 
-/// A statement a part of which came so far.
-fn behind_part(alloc: Global, station: Station, reached: Reached) -> Result<Stepped, Memory>
-    ensures { IfOk result (λ t. stepped_of t ≡ stepped_by_part (station_of station) (reached_of reached)) }
+/// A statement a part of which came so far, where it stands within that part.
+fn behind_part(station: Station, went: Went) -> Stepped
+    ensures { (inner : at.Footing) → stepped_of result (in_part (station_of station) inner) ≡ stepped_by_part (station_of station) (went_of went inner) }
 {
-    match reached {
-        Reached::Leads { flow } => Ok(Stepped::Again {
+    match went {
+        Went::Leads { flow } => Stepped::Again {
+            station,
+            value: 0,
+            flow,
+        },
+        Went::Pauses { pause } => Stepped::Stopped {
+            went: Went::Pauses { pause },
+        },
+        Went::Fails { kind, line } => Stepped::Stopped {
+            went: Went::Fails { kind, line },
+        },
+        Went::Refuses { line } => Stepped::Stopped {
+            went: Went::Refuses { line },
+        },
+        Went::Exits => Stepped::Stopped { went: Went::Exits },
+        Went::Stops => Stepped::Stopped { went: Went::Stops },
+    }
+}
+
+/// A statement that entered a part, which came so far and stands here.
+fn behind_entered(
+    alloc: Global,
+    station: Station,
+    went: Went,
+    inner: Footing,
+    footing: &mut Footing,
+) -> Result<Stepped, Memory>
+    ensures { IfOk result (λ t. stepped_of t (footing_of footing.new) ≡ stepped_by_part (station_of station) (went_of went (footing_of inner))) }
+{
+    match went {
+        Went::Leads { flow } => Ok(Stepped::Again {
             station,
             value: 0,
             flow,
         }),
-        Reached::Pauses { pause, footing } => {
-            let inner = Box::new(alloc, footing)?;
-            Ok(waits(pause, Footing::InPart { station, inner }))
+        Went::Pauses { pause } => {
+            let inner = Box::new(alloc, inner)?;
+            Ok(waits(pause, Footing::InPart { station, inner }, footing))
         }
-        Reached::Fails { kind, line } => Ok(Stepped::Stopped {
-            reached: Reached::Fails { kind, line },
+        Went::Fails { kind, line } => Ok(Stepped::Stopped {
+            went: Went::Fails { kind, line },
         }),
-        Reached::Refuses { line } => Ok(Stepped::Stopped {
-            reached: Reached::Refuses { line },
+        Went::Refuses { line } => Ok(Stepped::Stopped {
+            went: Went::Refuses { line },
         }),
-        Reached::Exits => Ok(Stepped::Stopped {
-            reached: Reached::Exits,
-        }),
-        Reached::Stops => Ok(Stepped::Stopped {
-            reached: Reached::Stops,
-        }),
+        Went::Exits => Ok(Stepped::Stopped { went: Went::Exits }),
+        Went::Stops => Ok(Stepped::Stopped { went: Went::Stops }),
     }
 }
 
@@ -178,10 +219,11 @@ fn enter_value(
     alloc: Global,
     s: &ScopedStmt,
     station: Station,
+    footing: &mut Footing,
     locals: &mut Locals,
 ) -> Result<Stepped, Memory>
     requires { IsFitStatement (scoped_statement s.now) }
-    ensures { IfOk result (λ t. EnteredValue (scoped_statement s.now) (station_of station) (locals_of locals.old) (stepped_of t) (locals_of locals.new)) }
+    ensures { IfOk result (λ t. EnteredValue (scoped_statement s.now) (station_of station) (locals_of locals.old) (stepped_of t (footing_of footing.new)) (locals_of locals.new)) }
 {
     let came = value(
         alloc,
@@ -193,61 +235,52 @@ fn enter_value(
         0,
         locals,
     )?;
-    Ok(behind_value(station, came))
+    Ok(behind_value(station, came, footing))
 }
 
 /// Goes on in the statement behind which a statement comes to this station.
-#[cycle(advance_statement)]
+#[cycle(walk)]
 fn part(
     alloc: Global,
     s: &ScopedStmt,
     station: Station,
-    footing: Footing,
+    inner: &mut Footing,
     given: u32,
     bound: u32,
     locals: &mut Locals,
-) -> Result<Reached, Memory>
+) -> Result<Went, Memory>
     requires { IsFitStatement (scoped_statement s.now) }
-    ensures { IfOk result (λ reached. InnerComes bound (spec.part_at (scoped_statement s.now) (station_of station)) (footing_of footing) given (locals_of locals.old) (reached_of reached) (locals_of locals.new)) }
+    ensures { IfOk result (λ went. InnerComes bound (spec.part_at (scoped_statement s.now) (station_of station)) (footing_of inner.old) given (locals_of locals.old) (went_of went (footing_of inner.new)) (locals_of locals.new)) }
 {
     match statement_part_at(s, station) {
-        None => Ok(Reached::Stops),
-        Some(inner) => {
-            let reached = advance_statement(alloc, inner, footing, given, bound, locals)?;
-            Ok(reached)
-        }
+        None => Ok(Went::Stops),
+        Some(of) => walk(alloc, of, inner, given, bound, locals),
     }
 }
 
 /// Enters the statement behind which a statement comes to this station.
-#[cycle(advance_statement)]
+#[cycle(walk)]
 fn enter_part(
     alloc: Global,
     s: &ScopedStmt,
     station: Station,
     bound: u32,
+    footing: &mut Footing,
     locals: &mut Locals,
 ) -> Result<Stepped, Memory>
     requires { IsFitStatement (scoped_statement s.now) }
-    ensures { IfOk result (λ t. EnteredPart bound (scoped_statement s.now) (station_of station) (locals_of locals.old) (stepped_of t) (locals_of locals.new)) }
+    ensures { IfOk result (λ t. EnteredPart bound (scoped_statement s.now) (station_of station) (locals_of locals.old) (stepped_of t (footing_of footing.new)) (locals_of locals.new)) }
 {
-    let reached = part(
-        alloc,
-        s,
-        station,
-        Footing::At {
-            station: Station::Start,
-        },
-        0,
-        bound,
-        locals,
-    )?;
-    let stepped = behind_part(alloc, station, reached)?;
+    let mut inner = Footing::At {
+        station: Station::Start,
+    };
+    let went = part(alloc, s, station, &mut inner, 0, bound, locals)?;
+    let stepped = behind_entered(alloc, station, went, inner, footing)?;
     Ok(stepped)
 }
 
 /// One step of a statement from a station on, behind an expression with this value and a statement that led on so.
-#[cycle(advance_statement)]
+#[cycle(walk)]
 fn step(
     alloc: Global,
     s: &ScopedStmt,
@@ -255,20 +288,21 @@ fn step(
     value: u32,
     flow: Flow,
     bound: u32,
+    footing: &mut Footing,
     locals: &mut Locals,
 ) -> Result<Stepped, Memory>
     requires { IsFitStatement (scoped_statement s.now) }
-    ensures same { IfOk result (λ t. Steps bound (scoped_statement s.now) (station_of station) value (flow_of flow) (locals_of locals.old) (stepped_of t) (locals_of locals.new)) }
-    ensures down { IfOk result (λ t. GoesDown bound (scoped_statement s.now) (station_rank bound (scoped_statement s.now) (station_of station)) (stepped_of t)) }
+    ensures same { IfOk result (λ t. Steps bound (scoped_statement s.now) (station_of station) value (flow_of flow) (locals_of locals.old) (stepped_of t (footing_of footing.new)) (locals_of locals.new)) }
+    ensures down { IfOk result (λ t. GoesDown bound (scoped_statement s.now) (station_rank bound (scoped_statement s.now) (station_of station)) (stepped_of t (footing_of footing.new))) }
 {
     station_writes(s, station, value, locals)?;
     match station_move(s, station, value, flow, bound) {
         StationMove::EntersValue { station: next } => {
-            let stepped = enter_value(alloc, s, next, locals)?;
+            let stepped = enter_value(alloc, s, next, footing, locals)?;
             Ok(stepped)
         }
         StationMove::EntersPart { station: next } => {
-            let stepped = enter_part(alloc, s, next, bound, locals)?;
+            let stepped = enter_part(alloc, s, next, bound, footing, locals)?;
             Ok(stepped)
         }
         StationMove::MovesOn { station: next } => Ok(Stepped::Again {
@@ -277,20 +311,23 @@ fn step(
             flow: Flow::Normal,
         }),
         StationMove::Leads { flow: own } => Ok(Stepped::Stopped {
-            reached: Reached::Leads { flow: own },
+            went: Went::Leads { flow: own },
         }),
         StationMove::Asks {
             kind,
             station: next,
-        } => Ok(waits(Pause::Asks { line: 0, kind }, Footing::At { station: next })),
-        StationMove::Stops => Ok(Stepped::Stopped {
-            reached: Reached::Stops,
-        }),
+        } => Ok(waits(
+            Pause::Asks { line: 0, kind },
+            Footing::At { station: next },
+            footing,
+        )),
+        StationMove::Stops => Ok(Stepped::Stopped { went: Went::Stops }),
     }
 }
 
-/// Goes on from a station, behind an expression with this value and a statement that led on so, up to the next pause.
-#[cycle(advance_statement)]
+/// Goes on from a station, behind an expression with this value and a statement that led on so, up to the next pause,
+/// and leaves in `footing` where the statement stands behind it.
+#[cycle(walk)]
 fn go_on(
     alloc: Global,
     s: &ScopedStmt,
@@ -298,16 +335,17 @@ fn go_on(
     value: u32,
     flow: Flow,
     bound: u32,
+    footing: &mut Footing,
     locals: &mut Locals,
-) -> Result<Reached, Memory>
+) -> Result<Went, Memory>
     requires { IsFitStatement (scoped_statement s.now) }
-    ensures { IfOk result (λ reached. ComesBehind bound (scoped_statement s.now) (again (station_of station) value (flow_of flow)) (locals_of locals.old) (reached_of reached) (locals_of locals.new)) }
+    ensures { IfOk result (λ went. ComesBehind bound (scoped_statement s.now) (again (station_of station) value (flow_of flow)) (locals_of locals.old) (went_of went (footing_of footing.new)) (locals_of locals.new)) }
 {
     let mut now = station;
     let mut held = value;
     let mut led = flow;
     loop {
-        match step(alloc, s, now, held, led, bound, locals)? {
+        match step(alloc, s, now, held, led, bound, footing, locals)? {
             Stepped::Again {
                 station: next,
                 value: given,
@@ -317,22 +355,23 @@ fn go_on(
                 held = given;
                 led = way;
             }
-            Stepped::Stopped { reached } => return Ok(reached),
+            Stepped::Stopped { went } => return Ok(went),
         }
     }
 }
 
 /// Goes on behind a step.
-#[cycle(advance_statement)]
+#[cycle(walk)]
 fn go_behind(
     alloc: Global,
     s: &ScopedStmt,
     stepped: Stepped,
     bound: u32,
+    footing: &mut Footing,
     locals: &mut Locals,
-) -> Result<Reached, Memory>
+) -> Result<Went, Memory>
     requires { IsFitStatement (scoped_statement s.now) }
-    ensures { IfOk result (λ reached. ComesBehind bound (scoped_statement s.now) (stepped_of stepped) (locals_of locals.old) (reached_of reached) (locals_of locals.new)) }
+    ensures { IfOk result (λ went. ComesBehind bound (scoped_statement s.now) (stepped_of stepped (footing_of footing.old)) (locals_of locals.old) (went_of went (footing_of footing.new)) (locals_of locals.new)) }
 {
     match stepped {
         Stepped::Again {
@@ -340,17 +379,82 @@ fn go_behind(
             value,
             flow,
         } => {
-            let reached = go_on(alloc, s, station, value, flow, bound, locals)?;
-            Ok(reached)
+            let went = go_on(alloc, s, station, value, flow, bound, footing, locals)?;
+            Ok(went)
         }
-        Stepped::Stopped { reached } => Ok(reached),
+        Stepped::Stopped { went } => Ok(went),
+    }
+}
+
+/// Goes on from a footing of a statement, in place: the footings of the parts around the next pause stay where they
+/// are, and only what is left or entered is written.
+#[cycle(walk)]
+fn walk(
+    alloc: Global,
+    s: &ScopedStmt,
+    footing: &mut Footing,
+    given: u32,
+    bound: u32,
+    locals: &mut Locals,
+) -> Result<Went, Memory>
+    requires { IsFitStatement (scoped_statement s.now) }
+    ensures { IfOk result (λ went. StatementComes bound (scoped_statement s.now) (footing_of footing.old) given (locals_of locals.old) (went_of went (footing_of footing.new)) (locals_of locals.new)) }
+{
+    match footing {
+        Footing::At { station } => {
+            let station = *station;
+            let went = go_on(
+                alloc,
+                s,
+                station,
+                given,
+                Flow::Normal,
+                bound,
+                footing,
+                locals,
+            )?;
+            Ok(went)
+        }
+        Footing::InValue { station, inner } => {
+            let station = *station;
+            let place = mem::replace(
+                inner,
+                Place::At {
+                    stage: Stage::Start,
+                },
+            );
+            let came = value(alloc, s, station, place, given, locals)?;
+            let stepped = behind_value(station, came, footing);
+            let went = go_behind(alloc, s, stepped, bound, footing, locals)?;
+            Ok(went)
+        }
+        Footing::InPart { station, inner } => {
+            let station = *station;
+            let went = part(alloc, s, station, inner, given, bound, locals)?;
+            let stepped = behind_part(station, went);
+            let went = go_behind(alloc, s, stepped, bound, footing, locals)?;
+            Ok(went)
+        }
+    }
+}
+
+/// How far a statement came, and where it stands behind a pause.
+fn reached(went: Went, footing: Footing) -> Reached
+    ensures { reached_of result ≡ went_of went (footing_of footing) }
+{
+    match went {
+        Went::Leads { flow } => Reached::Leads { flow },
+        Went::Pauses { pause } => Reached::Pauses { pause, footing },
+        Went::Fails { kind, line } => Reached::Fails { kind, line },
+        Went::Refuses { line } => Reached::Refuses { line },
+        Went::Exits => Reached::Exits,
+        Went::Stops => Reached::Stops,
     }
 }
 
 /// Goes on from a footing of a statement, where this value is given and a loop has at most `bound` turns, up to the next
 /// pause or to the end. What the statement may do from there is what it may do where it came so far, Loc left out,
 /// however deep its calls may go. The time is that of the way down to the place, and of the steps that are no actions.
-#[cycle(advance_statement)]
 pub fn advance_statement(
     alloc: Global,
     s: &ScopedStmt,
@@ -362,30 +466,7 @@ pub fn advance_statement(
     requires { IsFitStatement (scoped_statement s.now) }
     ensures { IfOk result (λ reached. StatementComes bound (scoped_statement s.now) (footing_of footing) given (locals_of locals.old) (reached_of reached) (locals_of locals.new)) }
 {
-    match footing {
-        Footing::At { station } => {
-            let reached = go_on(alloc, s, station, given, Flow::Normal, bound, locals)?;
-            Ok(reached)
-        }
-        Footing::InValue { station, inner } => {
-            let came = value(alloc, s, station, inner, given, locals)?;
-            let stepped = behind_value(station, came);
-            let reached = go_behind(alloc, s, stepped, bound, locals)?;
-            Ok(reached)
-        }
-        Footing::InPart { station, inner } => {
-            let reached = part(
-                alloc,
-                s,
-                station,
-                Box::into_inner(inner),
-                given,
-                bound,
-                locals,
-            )?;
-            let stepped = behind_part(alloc, station, reached)?;
-            let reached = go_behind(alloc, s, stepped, bound, locals)?;
-            Ok(reached)
-        }
-    }
+    let mut here = footing;
+    let went = walk(alloc, s, &mut here, given, bound, locals)?;
+    Ok(reached(went, here))
 }

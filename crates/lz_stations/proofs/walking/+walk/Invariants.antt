@@ -5,7 +5,7 @@ use Rattle.lz_stations.specs.StationsHeld.{flow_of, station_of}
 use Rattle.lz_stations.specs.StationRanks.{station_rank}
 use Rattle.lz_stations.specs.StatementSizes.{statement_size}
 use Rattle.lz_stations.specs.Walks.{Steps, again}
-use Rattle.lz_stations.proofs.walking.+advance_statement.Given as goal
+use Rattle.lz_stations.proofs.walking.+walk.Given as goal
 
 abbrev pub decreases-part : goal.decreases-part
 decreases-part l = 6 * statement_size (scoped_statement l.s.now)
@@ -22,8 +22,8 @@ decreases-go_on l = 6 * statement_size (scoped_statement l.s.now) + 3
 abbrev pub decreases-go_behind : goal.decreases-go_behind
 decreases-go_behind l = 6 * statement_size (scoped_statement l.s.now) + 4
 
-abbrev pub decreases-advance_statement : goal.decreases-advance_statement
-decreases-advance_statement l = 6 * statement_size (scoped_statement l.s.now) + 5
+abbrev pub decreases-walk : goal.decreases-walk
+decreases-walk l = 6 * statement_size (scoped_statement l.s.now) + 5
 
 -- the statement came to this station
 abbrev pub invariant-go_on-loop-next : goal.invariant-go_on-loop-next

@@ -1,72 +1,40 @@
 use Rattle.std.proofs.Common.{◌<◌, sym, ap, ◌∙◌, arith}
+use Rattle.std.proofs.lemmas.Result.{IfOk-weaker}
 use Rattle.lz_tree.specs.ScopedTrees.{scoped_statement}
-use Rattle.lz_model.specs.CodeTraces.{normal}
-use Rattle.lz_turns.specs.Stages.{point_of, came_of, locals_of}
 use Rattle.lz_stations.specs.Stations as at
 use Rattle.lz_stations.specs.StationMoves.{part_at}
 use Rattle.lz_stations.specs.StationsHeld.{flow_of, station_of, station_move_of}
 use Rattle.lz_stations.specs.StatementSizes.{statement_size}
-use Rattle.lz_stations.specs.WalksHeld.{footing_of, reached_of, stepped_of}
+use Rattle.lz_stations.specs.WalksHeld.{footing_of, stepped_of}
 use Rattle.lz_stations.proofs.PlacesLemmas.{declares_numbers, part_inner}
 use Rattle.lz_stations.proofs.WalkLemmas.{part_missing, part_there, part_entered, value_comes, part_comes, station_comes, behind_again, behind_stopped, step_on, step_reaches, step_value, step_part, on_down, value_down, part_down, again_down, steps_first, steps_next, steps_come}
-use Rattle.lz_stations.proofs.walking.+advance_statement.Goals as goal
-
-pub advance_statement-returns-in_ok-reached-in-At : goal.advance_statement-returns-in_ok-reached-in-At
-advance_statement-returns-in_ok-reached-in-At t c =
-    let on = station_comes c.args.bound (scoped_statement c.args.s.now) (station_of c.in-At.station) c.args.given _ _ (reached_of c.in_ok-reached-in-At.reached) c.in_ok-reached-in-At.ensures in
-    rw (c.in-At.is) on
-
-pub advance_statement-returns-in_ok-reached-in-InValue : goal.advance_statement-returns-in_ok-reached-in-InValue
-advance_statement-returns-in_ok-reached-in-InValue t c =
-    let on = value_comes c.args.bound (scoped_statement c.args.s.now) (station_of c.in-InValue.station) (point_of c.in-InValue.inner) c.args.given _ _ _ (came_of c.in_ok-came-in-InValue.came) (reached_of c.in_ok-reached-in-InValue.reached)
-    _ c.in_ok-came-in-InValue.ensures c.behind_value-stepped.ensures c.in_ok-reached-in-InValue.ensures in
-    rw (c.in-InValue.is) on
-
-pub advance_statement-returns-in_ok-reached-in-InPart-2 : goal.advance_statement-returns-in_ok-reached-in-InPart-2
-advance_statement-returns-in_ok-reached-in-InPart-2 t c =
-    let on = part_comes c.args.bound (scoped_statement c.args.s.now) (station_of c.in-InPart.station) (footing_of c.into_inner.result) c.args.given _ _ _ (reached_of c.in_ok-reached-in-InPart.reached)
-    (reached_of c.in_ok-reached-in-InPart-2.reached) _ c.in_ok-reached-in-InPart.ensures c.in_ok-stepped-in-InPart.ensures c.in_ok-reached-in-InPart-2.ensures in
-    rw (c.in-InPart.is, sym c.into_inner.ensures) on
+use Rattle.lz_stations.proofs.walking.+walk.Goals as goal
 
 pub enter_part-returns : goal.enter_part-returns
-enter_part-returns t c = part_entered c.args.bound (scoped_statement c.args.s.now) (station_of c.args.station) _ _ (reached_of c.in_ok-reached.reached) _ c.in_ok-reached.ensures c.in_ok-stepped.ensures
-
-pub go_behind-returns-in_ok-reached-in-Again : goal.go_behind-returns-in_ok-reached-in-Again
-go_behind-returns-in_ok-reached-in-Again t c =
-    behind_again c.args.bound (scoped_statement c.args.s.now) (station_of c.in-Again.station) c.in-Again.value (flow_of c.in-Again.flow) _ _ (reached_of c.in_ok-reached-in-Again.reached) _ (ap stepped_of c.in-Again.is) c.in_ok-reached-in-Again.ensures
+enter_part-returns t c = part_entered c.args.bound (scoped_statement c.args.s.now) (station_of c.args.station) _ _ _ _ c.in_ok-went.ensures c.in_ok-stepped.ensures
 
 pub go_behind-returns-in-Stopped : goal.go_behind-returns-in-Stopped
-go_behind-returns-in-Stopped t c = behind_stopped c.args.bound (scoped_statement c.args.s.now) _ (reached_of c.in-Stopped.reached) _ (ap stepped_of c.in-Stopped.is)
+go_behind-returns-in-Stopped t c = behind_stopped c.args.bound (scoped_statement c.args.s.now) _ _ _ (ap (λ x. stepped_of x (footing_of c.args.footing.now)) c.in-Stopped.is)
 
 pub go_on-loop-next-init : goal.go_on-loop-next-init
 go_on-loop-next-init t c = steps_first c.args.bound (scoped_statement c.args.s.now) (station_of c.args.station) c.args.value (flow_of c.args.flow) _
 
 pub go_on-loop-next-smaller : goal.go_on-loop-next-smaller
 go_on-loop-next-smaller t c =
-    again_down c.args.bound (scoped_statement c.args.s.now) (station_of c.loop-next.now) (station_of c.in-Again.next) c.in-Again.given (flow_of c.in-Again.way) _ (ap stepped_of c.in-Again.is) c.in_ok-next.ensures.down
+    again_down c.args.bound (scoped_statement c.args.s.now) (station_of c.loop-next.now) (station_of c.in-Again.next) c.in-Again.given (flow_of c.in-Again.way) _ (ap (λ x. stepped_of x (footing_of c.step.new.footing)) c.in-Again.is) c.in_ok-next.ensures.down
 
 pub go_on-loop-next-preserved : goal.go_on-loop-next-preserved
 go_on-loop-next-preserved t c =
     steps_next c.args.bound (scoped_statement c.args.s.now) (station_of c.args.station) (station_of c.loop-next.now) (station_of c.in-Again.next) c.args.value c.loop-next.held c.in-Again.given
-    (flow_of c.args.flow) (flow_of c.loop-next.led) (flow_of c.in-Again.way) _ _ _ _ c.loop-next.invariant c.in_ok-next.ensures.same (ap stepped_of c.in-Again.is)
+    (flow_of c.args.flow) (flow_of c.loop-next.led) (flow_of c.in-Again.way) _ _ _ _ c.loop-next.invariant c.in_ok-next.ensures.same (ap (λ x. stepped_of x (footing_of c.step.new.footing)) c.in-Again.is)
 
 pub go_on-returns-in-Stopped : goal.go_on-returns-in-Stopped
 go_on-returns-in-Stopped t c =
-    steps_come c.args.bound (scoped_statement c.args.s.now) (station_of c.args.station) (station_of c.loop-next.now) c.args.value c.loop-next.held (flow_of c.args.flow) (flow_of c.loop-next.led) _ _ _ (reached_of c.in-Stopped.reached) _
-    c.loop-next.invariant c.in_ok-next.ensures.same (ap stepped_of c.in-Stopped.is)
-
-pub part-advance_statement-requires : goal.part-advance_statement-requires
-part-advance_statement-requires t c =
-    let inner = part_inner (scoped_statement c.args.s.now) (station_of c.args.station) (scoped_statement c.in-Some.inner.now) (sym c.in-Some.ensures) c.requires in
-    let below : statement_size (scoped_statement c.in-Some.inner.now) < statement_size (scoped_statement c.args.s.now) = inner.1 in
-    (omega (arith, below, c.decreases), inner.0)
+    steps_come c.args.bound (scoped_statement c.args.s.now) (station_of c.args.station) (station_of c.loop-next.now) c.args.value c.loop-next.held (flow_of c.args.flow) (flow_of c.loop-next.led) _ _ _ _ _
+    c.loop-next.invariant c.in_ok-next.ensures.same (ap (λ x. stepped_of x (footing_of c.step.new.footing)) c.in-Stopped.is)
 
 pub part-returns-in-None : goal.part-returns-in-None
-part-returns-in-None t c = part_missing c.args.bound (part_at (scoped_statement c.args.s.now) (station_of c.args.station)) (footing_of c.args.footing) c.args.given _ c.in-None.ensures
-
-pub part-returns-in_ok-reached-in-Some : goal.part-returns-in_ok-reached-in-Some
-part-returns-in_ok-reached-in-Some t c =
-    part_there c.args.bound (part_at (scoped_statement c.args.s.now) (station_of c.args.station)) _ (footing_of c.args.footing) c.args.given _ _ (reached_of c.in_ok-reached-in-Some.reached) c.in-Some.ensures c.in_ok-reached-in-Some.ensures
+part-returns-in-None t c = part_missing c.args.bound (part_at (scoped_statement c.args.s.now) (station_of c.args.station)) _ c.args.given _ c.in-None.ensures
 
 pub step-station_writes-requires : goal.step-station_writes-requires
 step-station_writes-requires t c = declares_numbers (scoped_statement c.args.s.now) c.requires
@@ -123,3 +91,32 @@ step-returns-in-Stops-clause-same t c =
 
 pub step-returns-in-Stops-clause-down : goal.step-returns-in-Stops-clause-down
 step-returns-in-Stops-clause-down t c = tt
+
+pub go_behind-returns-in_ok-went-in-Again : goal.go_behind-returns-in_ok-went-in-Again
+go_behind-returns-in_ok-went-in-Again t c =
+    behind_again c.args.bound (scoped_statement c.args.s.now) (station_of c.in-Again.station) c.in-Again.value (flow_of c.in-Again.flow) _ _ _ _ (ap (λ x. stepped_of x (footing_of c.args.footing.now)) c.in-Again.is) c.in_ok-went-in-Again.ensures
+
+pub part-walk-requires : goal.part-walk-requires
+part-walk-requires t c =
+    let inner = part_inner (scoped_statement c.args.s.now) (station_of c.args.station) (scoped_statement c.in-Some.of.now) (sym c.in-Some.ensures) c.requires in
+    let below : statement_size (scoped_statement c.in-Some.of.now) < statement_size (scoped_statement c.args.s.now) = inner.1 in
+    (omega (arith, below, c.decreases), inner.0)
+
+pub part-returns-in-Some : goal.part-returns-in-Some
+part-returns-in-Some t c =
+    IfOk-weaker c.walk.result _ _ (λ went comes. part_there c.args.bound (part_at (scoped_statement c.args.s.now) (station_of c.args.station)) _ _ c.args.given _ _ _ c.in-Some.ensures comes) c.walk.ensures
+
+pub walk-returns-in_ok-went-in-At : goal.walk-returns-in_ok-went-in-At
+walk-returns-in_ok-went-in-At t c =
+    let on = station_comes c.args.bound (scoped_statement c.args.s.now) (station_of c.in-At.station) c.args.given _ _ _ c.in_ok-went-in-At.ensures in
+    rw (c.in-At.is) on
+
+pub walk-returns-in_ok-went-in-InValue : goal.walk-returns-in_ok-went-in-InValue
+walk-returns-in_ok-went-in-InValue t c =
+    let on = value_comes c.args.bound (scoped_statement c.args.s.now) (station_of c.in-InValue.station) _ c.args.given _ _ _ _ _ _ c.in_ok-came-in-InValue.ensures c.behind_value-stepped.ensures c.in_ok-went-in-InValue.ensures in
+    rw (c.in-InValue.is, sym c.replace-place.ensures.value) on
+
+pub walk-returns-in_ok-went-in-InPart-2 : goal.walk-returns-in_ok-went-in-InPart-2
+walk-returns-in_ok-went-in-InPart-2 t c =
+    let on = part_comes c.args.bound (scoped_statement c.args.s.now) (station_of c.in-InPart.station) _ c.args.given _ _ _ _ _ _ c.in_ok-went-in-InPart.ensures (c.behind_part-stepped.ensures _) c.in_ok-went-in-InPart-2.ensures in
+    rw (c.in-InPart.is, sym c.deref_mut.ensures.value) on
