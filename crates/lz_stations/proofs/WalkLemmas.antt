@@ -19,6 +19,9 @@ use Rattle.lz_stations.specs.StationMoves.{value_at, part_at, station_move, stat
 use Rattle.lz_stations.specs.StationTraces.{station_trace, with_value, with_statement, statement_resumed, paused, behind_reached, station_moved}
 use Rattle.lz_stations.specs.StationRanks.{station_rank, FallsTo}
 use Rattle.lz_stations.specs.StatementNears.{inner_most, statement_left, StatementNears}
+use Rattle.lz_stations.specs.declared.walking.Went.{Went}
+use Rattle.lz_stations.specs.declared.walking.Went.TheVariants.{Leads, Pauses, Fails, Refuses, Exits, Stops}
+use Rattle.lz_stations.specs.WalksHeld.{went_of, led_of}
 use Rattle.lz_stations.specs.Walks.{StatementComes, InnerComes, Stepped, again, stopped, behind_step, StepNears, Steps, stepped_by_value, stepped_by_part, StaysAt, EnteredValue, EnteredPart, ComesBehind, GoesDown}
 use Rattle.lz_stations.proofs.StationsLemmas.{stations_so}
 use Rattle.lz_stations.proofs.StationRanksLemmas.{station_falls}
@@ -214,7 +217,7 @@ value_comes bound s station point given before middle after came reached stepped
     }
 
 -- within a statement, and behind it
-pub part_comes : (bound : ℕ) (s : ScopedStatement) (station : Station) (footing : Footing) (given : ℕ) (before middle after : Locals) (inner reached : Reached) (stepped : Stepped)
+part_comes : (bound : ℕ) (s : ScopedStatement) (station : Station) (footing : Footing) (given : ℕ) (before middle after : Locals) (inner reached : Reached) (stepped : Stepped)
     → InnerComes bound (part_at s station) footing given before inner middle → stepped ≡ stepped_by_part station inner → ComesBehind bound s stepped middle reached after
     → StatementComes bound s (in_part station footing) given before reached after
 part_comes bound s station footing given before middle after inner reached stepped part is on =
@@ -227,6 +230,42 @@ part_comes bound s station footing given before middle after inner reached stepp
           (subst (λ (x : Stepped). StepNears bound s (statement_left bound (in_part station footing) s) x) (sym is) (part_near bound s station footing given before middle inner (part_at s station) refl part));
     }
 
+pub behind_stopped : (bound : ℕ) (s : ScopedStatement) (before : Locals) (reached : Reached) (stepped : Stepped) → stepped ≡ stopped reached → ComesBehind bound s stepped before reached before
+behind_stopped bound s before reached stepped is = subst (λ (x : Stepped). ComesBehind bound s x before reached before) (sym is) (record { same = λ p n depth. alike_same _ before; near = λ left h. h })
+
+-- a part that led on, and one that did not, which stands where it stands
+abbrev stepped_led : Station → Option Flow → Stepped
+stepped_led station (Some flow) = again station 0 flow
+stepped_led station None = stopped stops
+
+led_steps : (station : Station) (went : Went) (inner : Footing) (flow : Flow) → Some flow ≡ led_of went → again station 0 flow ≡ stepped_by_part station (went_of went inner)
+led_steps station (Leads way) inner flow is = ap (stepped_led station) is
+led_steps station (Pauses pause) inner flow is = absurd cc
+led_steps station (Fails kind line) inner flow is = absurd cc
+led_steps station (Refuses line) inner flow is = absurd cc
+led_steps station Exits inner flow is = absurd cc
+led_steps station Stops inner flow is = absurd cc
+
+stays_within : (station : Station) (went : Went) (inner : Footing) → None ≡ led_of went → stopped (went_of went (in_part station inner)) ≡ stepped_by_part station (went_of went inner)
+stays_within station (Leads way) inner is = absurd cc
+stays_within station (Pauses pause) inner is = refl
+stays_within station (Fails kind line) inner is = refl
+stays_within station (Refuses line) inner is = refl
+stays_within station Exits inner is = refl
+stays_within station Stops inner is = refl
+
+pub part_leads : (bound : ℕ) (s : ScopedStatement) (station : Station) (footing : Footing) (given : ℕ) (before middle after : Locals) (went : Went) (inner : Footing) (flow : Flow) (reached : Reached)
+    → InnerComes bound (part_at s station) footing given before (went_of went inner) middle → Some flow ≡ led_of went → ComesBehind bound s (again station 0 flow) middle reached after
+    → StatementComes bound s (in_part station footing) given before reached after
+part_leads bound s station footing given before middle after went inner flow reached part is on =
+    part_comes bound s station footing given before middle after (went_of went inner) reached (again station 0 flow) part (led_steps station went inner flow is) on
+
+pub part_stays : (bound : ℕ) (s : ScopedStatement) (station : Station) (footing : Footing) (given : ℕ) (before after : Locals) (went : Went) (inner : Footing)
+    → InnerComes bound (part_at s station) footing given before (went_of went inner) after → None ≡ led_of went → StatementComes bound s (in_part station footing) given before (went_of went (in_part station inner)) after
+part_stays bound s station footing given before after went inner part is =
+    let still = went_of went (in_part station inner) in
+    part_comes bound s station footing given before after after (went_of went inner) still (stopped still) part (stays_within station went inner is) (behind_stopped bound s after still (stopped still) refl)
+
 -- at a station
 pub station_comes : (bound : ℕ) (s : ScopedStatement) (station : Station) (given : ℕ) (before after : Locals) (reached : Reached) → ComesBehind bound s (again station given normal) before reached after
     → StatementComes bound s (at_station station) given before reached after
@@ -236,9 +275,6 @@ station_comes bound s station given before after reached on = record { same = λ
 pub behind_again : (bound : ℕ) (s : ScopedStatement) (station : Station) (v : ℕ) (flow : Flow) (before after : Locals) (reached : Reached) (stepped : Stepped)
     → stepped ≡ again station v flow → ComesBehind bound s (again station v flow) before reached after → ComesBehind bound s stepped before reached after
 behind_again bound s station v flow before after reached stepped is on = subst (λ (x : Stepped). ComesBehind bound s x before reached after) (sym is) on
-
-pub behind_stopped : (bound : ℕ) (s : ScopedStatement) (before : Locals) (reached : Reached) (stepped : Stepped) → stepped ≡ stopped reached → ComesBehind bound s stepped before reached before
-behind_stopped bound s before reached stepped is = subst (λ (x : Stepped). ComesBehind bound s x before reached before) (sym is) (record { same = λ p n depth. alike_same _ before; near = λ left h. h })
 
 -- ---- one step
 

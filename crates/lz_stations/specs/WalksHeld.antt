@@ -1,4 +1,6 @@
 -- Inner: where a statement stands, how far it came and what a step leads to, as code holds them.
+use Rattle.std.specs.Prelude.{Option, Some, None}
+use Rattle.lz_model.specs.CodeTraces.{Flow}
 use Rattle.lz_stations.specs.declared.footing.Footing.{Footing, At, InValue, InPart'}
 use Rattle.lz_stations.specs.declared.footing.Pause as held_pause
 use Rattle.lz_stations.specs.declared.footing.Pause.TheVariants as code_pauses
@@ -42,6 +44,15 @@ went_of (code_went.Fails kind line) footing = at.fails kind line
 went_of (code_went.Refuses line) footing = at.refuses line
 went_of code_went.Exits footing = at.quits
 went_of code_went.Stops footing = at.stops
+
+-- how a statement led on, if it did
+abbrev pub led_of : held_went.Went → Option Flow
+led_of (code_went.Leads flow) = Some (flow_of flow)
+led_of (code_went.Pauses pause) = None
+led_of (code_went.Fails kind line) = None
+led_of (code_went.Refuses line) = None
+led_of code_went.Exits = None
+led_of code_went.Stops = None
 
 -- what a step leads to, where the statement stands here behind a pause
 abbrev pub stepped_of : held_stepped.Stepped → at.Footing → Stepped

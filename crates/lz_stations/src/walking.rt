@@ -1,15 +1,14 @@
-ghost use Rattle.std.specs.Prelude.{◌≡◌, IfOk};
+ghost use Rattle.std.specs.Prelude.{◌≡◌, IfOk, option_map};
 ghost use Rattle.lz_tree.specs.ScopedTrees.{scoped_statement};
 ghost use Rattle.lz_turns.specs.Stages.{point_of, came_of, locals_of};
 ghost use Rattle.lz_turns.specs.Resumed.{PartComes};
-ghost use Rattle.lz_stations.specs.Stations as at;
-ghost use Rattle.lz_stations.specs.Stations.{in_part, pauses};
+ghost use Rattle.lz_stations.specs.Stations.{in_value, pauses};
 ghost use Rattle.lz_stations.specs.StationMoves as spec;
 ghost use Rattle.lz_stations.specs.StationsHeld.{flow_of, station_of};
 ghost use Rattle.lz_stations.specs.StationRanks.{station_rank};
 ghost use Rattle.lz_stations.specs.StatementFits.{IsFitStatement};
 ghost use Rattle.lz_stations.specs.Walks.{StatementComes, InnerComes, again, stopped, Steps, stepped_by_value, stepped_by_part, EnteredValue, EnteredPart, ComesBehind, GoesDown};
-ghost use Rattle.lz_stations.specs.WalksHeld.{footing_of, pause_of, reached_of, went_of, stepped_of};
+ghost use Rattle.lz_stations.specs.WalksHeld.{footing_of, pause_of, reached_of, went_of, led_of, stepped_of};
 
 use crate::footing::{Footing, Pause, Reached};
 use crate::places::{statement_part_at, value_at};
@@ -138,27 +137,17 @@ fn behind_value(station: Station, came: Came, footing: &mut Footing) -> Stepped
     }
 }
 
-/// A statement a part of which came so far, where it stands within that part.
-fn behind_part(station: Station, went: Went) -> Stepped
-    ensures { (inner : at.Footing) → stepped_of result (in_part (station_of station) inner) ≡ stepped_by_part (station_of station) (went_of went inner) }
+/// How a statement led on, if it did.
+fn led_on(went: &Went) -> Option<Flow>
+    ensures { option_map flow_of result ≡ led_of went.now }
 {
     match went {
-        Went::Leads { flow } => Stepped::Again {
-            station,
-            value: 0,
-            flow,
-        },
-        Went::Pauses { pause } => Stepped::Stopped {
-            went: Went::Pauses { pause },
-        },
-        Went::Fails { kind, line } => Stepped::Stopped {
-            went: Went::Fails { kind, line },
-        },
-        Went::Refuses { line } => Stepped::Stopped {
-            went: Went::Refuses { line },
-        },
-        Went::Exits => Stepped::Stopped { went: Went::Exits },
-        Went::Stops => Stepped::Stopped { went: Went::Stops },
+        Went::Leads { flow } => Some(*flow),
+        Went::Pauses { .. }
+        | Went::Fails { .. }
+        | Went::Refuses { .. }
+        | Went::Exits
+        | Went::Stops => None,
     }
 }
 
@@ -360,26 +349,29 @@ fn go_on(
     }
 }
 
-/// Goes on behind a step.
+/// Goes on in the expression behind which a statement comes to this station, and behind it.
 #[cycle(walk)]
-fn go_behind(
+fn walk_value(
     alloc: Global,
     s: &ScopedStmt,
-    stepped: Stepped,
-    bound: u32,
+    station: Station,
+    place: Place,
     footing: &mut Footing,
+    given: u32,
+    bound: u32,
     locals: &mut Locals,
 ) -> Result<Went, Memory>
     requires { IsFitStatement (scoped_statement s.now) }
-    ensures { IfOk result (λ went. ComesBehind bound (scoped_statement s.now) (stepped_of stepped (footing_of footing.old)) (locals_of locals.old) (went_of went (footing_of footing.new)) (locals_of locals.new)) }
+    ensures { IfOk result (λ went. StatementComes bound (scoped_statement s.now) (in_value (station_of station) (point_of place)) given (locals_of locals.old) (went_of went (footing_of footing.new)) (locals_of locals.new)) }
 {
-    match stepped {
+    let came = value(alloc, s, station, place, given, locals)?;
+    match behind_value(station, came, footing) {
         Stepped::Again {
-            station,
-            value,
+            station: next,
+            value: held,
             flow,
         } => {
-            let went = go_on(alloc, s, station, value, flow, bound, footing, locals)?;
+            let went = go_on(alloc, s, next, held, flow, bound, footing, locals)?;
             Ok(went)
         }
         Stepped::Stopped { went } => Ok(went),
@@ -387,7 +379,7 @@ fn go_behind(
 }
 
 /// Goes on from a footing of a statement, in place: the footings of the parts around the next pause stay where they
-/// are, and only what is left or entered is written.
+/// are, and only what is left or entered is written. The frame of a level on the way down is kept small.
 #[cycle(walk)]
 fn walk(
     alloc: Global,
@@ -403,7 +395,7 @@ fn walk(
     match footing {
         Footing::At { station } => {
             let station = *station;
-            let went = go_on(
+            go_on(
                 alloc,
                 s,
                 station,
@@ -412,8 +404,7 @@ fn walk(
                 bound,
                 footing,
                 locals,
-            )?;
-            Ok(went)
+            )
         }
         Footing::InValue { station, inner } => {
             let station = *station;
@@ -423,17 +414,15 @@ fn walk(
                     stage: Stage::Start,
                 },
             );
-            let came = value(alloc, s, station, place, given, locals)?;
-            let stepped = behind_value(station, came, footing);
-            let went = go_behind(alloc, s, stepped, bound, footing, locals)?;
-            Ok(went)
+            walk_value(alloc, s, station, place, footing, given, bound, locals)
         }
         Footing::InPart { station, inner } => {
             let station = *station;
             let went = part(alloc, s, station, inner, given, bound, locals)?;
-            let stepped = behind_part(station, went);
-            let went = go_behind(alloc, s, stepped, bound, footing, locals)?;
-            Ok(went)
+            match led_on(&went) {
+                None => Ok(went),
+                Some(flow) => go_on(alloc, s, station, 0, flow, bound, footing, locals),
+            }
         }
     }
 }

@@ -7,14 +7,11 @@ use Rattle.lz_stations.specs.StationsHeld.{flow_of, station_of, station_move_of}
 use Rattle.lz_stations.specs.StatementSizes.{statement_size}
 use Rattle.lz_stations.specs.WalksHeld.{footing_of, stepped_of}
 use Rattle.lz_stations.proofs.PlacesLemmas.{declares_numbers, part_inner}
-use Rattle.lz_stations.proofs.WalkLemmas.{part_missing, part_there, part_entered, value_comes, part_comes, station_comes, behind_again, behind_stopped, step_on, step_reaches, step_value, step_part, on_down, value_down, part_down, again_down, steps_first, steps_next, steps_come}
+use Rattle.lz_stations.proofs.WalkLemmas.{part_missing, part_there, part_entered, value_comes, part_leads, part_stays, station_comes, behind_again, behind_stopped, step_on, step_reaches, step_value, step_part, on_down, value_down, part_down, again_down, steps_first, steps_next, steps_come}
 use Rattle.lz_stations.proofs.walking.+walk.Goals as goal
 
 pub enter_part-returns : goal.enter_part-returns
 enter_part-returns t c = part_entered c.args.bound (scoped_statement c.args.s.now) (station_of c.args.station) _ _ _ _ c.in_ok-went.ensures c.in_ok-stepped.ensures
-
-pub go_behind-returns-in-Stopped : goal.go_behind-returns-in-Stopped
-go_behind-returns-in-Stopped t c = behind_stopped c.args.bound (scoped_statement c.args.s.now) _ _ _ (ap (λ x. stepped_of x (footing_of c.args.footing.now)) c.in-Stopped.is)
 
 pub go_on-loop-next-init : goal.go_on-loop-next-init
 go_on-loop-next-init t c = steps_first c.args.bound (scoped_statement c.args.s.now) (station_of c.args.station) c.args.value (flow_of c.args.flow) _
@@ -92,10 +89,6 @@ step-returns-in-Stops-clause-same t c =
 pub step-returns-in-Stops-clause-down : goal.step-returns-in-Stops-clause-down
 step-returns-in-Stops-clause-down t c = tt
 
-pub go_behind-returns-in_ok-went-in-Again : goal.go_behind-returns-in_ok-went-in-Again
-go_behind-returns-in_ok-went-in-Again t c =
-    behind_again c.args.bound (scoped_statement c.args.s.now) (station_of c.in-Again.station) c.in-Again.value (flow_of c.in-Again.flow) _ _ _ _ (ap (λ x. stepped_of x (footing_of c.args.footing.now)) c.in-Again.is) c.in_ok-went-in-Again.ensures
-
 pub part-walk-requires : goal.part-walk-requires
 part-walk-requires t c =
     let inner = part_inner (scoped_statement c.args.s.now) (station_of c.args.station) (scoped_statement c.in-Some.of.now) (sym c.in-Some.ensures) c.requires in
@@ -106,17 +99,31 @@ pub part-returns-in-Some : goal.part-returns-in-Some
 part-returns-in-Some t c =
     IfOk-weaker c.walk.result _ _ (λ went comes. part_there c.args.bound (part_at (scoped_statement c.args.s.now) (station_of c.args.station)) _ _ c.args.given _ _ _ c.in-Some.ensures comes) c.walk.ensures
 
-pub walk-returns-in_ok-went-in-At : goal.walk-returns-in_ok-went-in-At
-walk-returns-in_ok-went-in-At t c =
-    let on = station_comes c.args.bound (scoped_statement c.args.s.now) (station_of c.in-At.station) c.args.given _ _ _ c.in_ok-went-in-At.ensures in
+pub walk_value-returns-in_ok-went-in-Again : goal.walk_value-returns-in_ok-went-in-Again
+walk_value-returns-in_ok-went-in-Again t c =
+    let on = behind_again c.args.bound (scoped_statement c.args.s.now) (station_of c.in-Again.next) c.in-Again.held (flow_of c.in-Again.flow) _ _ _ _ (ap (λ x. stepped_of x (footing_of c.behind_value.new.footing)) c.in-Again.is) c.in_ok-went-in-Again.ensures in
+    value_comes c.args.bound (scoped_statement c.args.s.now) (station_of c.args.station) _ c.args.given _ _ _ _ _ _ c.in_ok-came.ensures c.behind_value.ensures on
+
+pub walk_value-returns-in-Stopped : goal.walk_value-returns-in-Stopped
+walk_value-returns-in-Stopped t c =
+    let on = behind_stopped c.args.bound (scoped_statement c.args.s.now) _ _ _ (ap (λ x. stepped_of x (footing_of c.behind_value.new.footing)) c.in-Stopped.is) in
+    value_comes c.args.bound (scoped_statement c.args.s.now) (station_of c.args.station) _ c.args.given _ _ _ _ _ _ c.in_ok-came.ensures c.behind_value.ensures on
+
+pub walk-returns-in-At : goal.walk-returns-in-At
+walk-returns-in-At t c =
+    let on = IfOk-weaker c.go_on.result _ _ (λ went comes. station_comes c.args.bound (scoped_statement c.args.s.now) (station_of c.in-At.station) c.args.given _ _ _ comes) c.go_on.ensures in
     rw (c.in-At.is) on
 
-pub walk-returns-in_ok-went-in-InValue : goal.walk-returns-in_ok-went-in-InValue
-walk-returns-in_ok-went-in-InValue t c =
-    let on = value_comes c.args.bound (scoped_statement c.args.s.now) (station_of c.in-InValue.station) _ c.args.given _ _ _ _ _ _ c.in_ok-came-in-InValue.ensures c.behind_value-stepped.ensures c.in_ok-went-in-InValue.ensures in
-    rw (c.in-InValue.is, sym c.replace-place.ensures.value) on
+pub walk-returns-in-InValue : goal.walk-returns-in-InValue
+walk-returns-in-InValue t c = rw (c.in-InValue.is, sym c.replace-place.ensures.value) c.walk_value.ensures
 
-pub walk-returns-in_ok-went-in-InPart-2 : goal.walk-returns-in_ok-went-in-InPart-2
-walk-returns-in_ok-went-in-InPart-2 t c =
-    let on = part_comes c.args.bound (scoped_statement c.args.s.now) (station_of c.in-InPart.station) _ c.args.given _ _ _ _ _ _ c.in_ok-went-in-InPart.ensures (c.behind_part-stepped.ensures _) c.in_ok-went-in-InPart-2.ensures in
+pub walk-returns-in-None : goal.walk-returns-in-None
+walk-returns-in-None t c =
+    let on = part_stays c.args.bound (scoped_statement c.args.s.now) (station_of c.in-InPart.station) _ c.args.given _ _ c.in_ok-went-in-InPart.went _ c.in_ok-went-in-InPart.ensures c.in-None.ensures in
+    rw (c.in-InPart.is, sym c.deref_mut.ensures.value) on
+
+pub walk-returns-in-Some : goal.walk-returns-in-Some
+walk-returns-in-Some t c =
+    let on = IfOk-weaker c.go_on-in-Some.result _ _
+    (λ went comes. part_leads c.args.bound (scoped_statement c.args.s.now) (station_of c.in-InPart.station) _ c.args.given _ _ _ c.in_ok-went-in-InPart.went _ (flow_of c.in-Some.flow) _ c.in_ok-went-in-InPart.ensures c.in-Some.ensures comes) c.go_on-in-Some.ensures in
     rw (c.in-InPart.is, sym c.deref_mut.ensures.value) on

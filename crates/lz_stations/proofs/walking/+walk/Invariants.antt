@@ -19,8 +19,8 @@ decreases-step l = 6 * statement_size (scoped_statement l.s.now) + 2
 abbrev pub decreases-go_on : goal.decreases-go_on
 decreases-go_on l = 6 * statement_size (scoped_statement l.s.now) + 3
 
-abbrev pub decreases-go_behind : goal.decreases-go_behind
-decreases-go_behind l = 6 * statement_size (scoped_statement l.s.now) + 4
+abbrev pub decreases-walk_value : goal.decreases-walk_value
+decreases-walk_value l = 6 * statement_size (scoped_statement l.s.now) + 4
 
 abbrev pub decreases-walk : goal.decreases-walk
 decreases-walk l = 6 * statement_size (scoped_statement l.s.now) + 5
