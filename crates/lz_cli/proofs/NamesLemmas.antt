@@ -2,13 +2,11 @@
 use Rattle.std.proofs.Common.{◌≡◌, ℕ, ◌==◌, true, false, ◌⊎◌, inl, inr, List, [], ◌∷◌, length, codes, Some, sym, ◌∙◌, ap, arith}
 use Rattle.lz_cli.specs.CommandLine.{turns_of, IsFileName, IsProofName, IsBoundedName, IsCheckName, IsPlainReplay, IsBoundedReplay, IsReplayName, IsNamed}
 
--- the first of some words, and no letters where there is none
-pub head_of : List (List ℕ) → List ℕ
+head_of : List (List ℕ) → List ℕ
 head_of [] = []
 head_of (first ∷ rest) = first
 
--- the words behind the first
-pub tail_of : List (List ℕ) → List (List ℕ)
+tail_of : List (List ℕ) → List (List ℕ)
 tail_of [] = []
 tail_of (first ∷ rest) = rest
 

@@ -1,7 +1,6 @@
 -- Words that are of neither form of a kind are not of the kind.
 use Rattle.std.proofs.Common.{◌≡◌, ℕ, false, codes, List, [], ◌∷◌, inl, inr, length, get_or, ◌<◌, ◌≤◌, Option, Some, None, refl, ap, arith}
 use Rattle.std.specs.Option.{IfNone}
-use Rattle.lz_cli.proofs.NamesLemmas.{head_of, tail_of}
 use Rattle.lz_cli.specs.CommandLine.{begins_with_dash, turns_of, IsFileName, IsBoundedName, IsCheckName, IsPlainReplay, IsBoundedReplay, IsReplayName}
 
 pub none_weaker : {A : Type 0} (o : Option A) (P Q : Type 0) → (P → Q) → IfNone o P → IfNone o Q
@@ -22,6 +21,14 @@ no_replay no_plain no_bounded turns schedule name (inr named) = no_bounded turns
 pub bounded_made : {o m b w f s n : List ℕ} {turns : ℕ} → (o ≡ codes "--mode") × (m ≡ codes "replay") × (b ≡ codes "--unwind") × (f ≡ codes "--schedule")
     → (begins_with_dash s ≡ false) × (begins_with_dash n ≡ false) → turns_of w ≡ Some turns → IsBoundedReplay (o ∷ m ∷ b ∷ w ∷ f ∷ s ∷ n ∷ []) turns s n
 bounded_made {o} {m} {b} {w} {f} {s} {n} {turns} four plain written = (w, rw (four.0, four.1, four.2, four.3) refl, written, plain.0, plain.1)
+
+head_of : List (List ℕ) → List ℕ
+head_of [] = []
+head_of (first ∷ rest) = first
+
+tail_of : List (List ℕ) → List (List ℕ)
+tail_of [] = []
+tail_of (first ∷ rest) = rest
 
 -- the seven words of such a replay are these
 pub bounded_parts : {o m b w f s n : List ℕ} {turns : ℕ} {schedule name : List ℕ} → IsBoundedReplay (o ∷ m ∷ b ∷ w ∷ f ∷ s ∷ n ∷ []) turns schedule name
