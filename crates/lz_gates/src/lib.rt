@@ -7,6 +7,3 @@ mod laws;
 
 pub use builder::Builder;
 pub use laws::{fresh_values_settle_gates, models_are_assignments, models_extend_once};
-
-#[cfg(test)]
-mod tests;
