@@ -14,6 +14,3 @@ mod shift;
 
 pub use lists::Bits;
 pub use operators::{binary_bits, choose_bits, convert_bits, truth_bit, unary_bits};
-
-#[cfg(test)]
-mod tests;

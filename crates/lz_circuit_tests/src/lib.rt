@@ -4,3 +4,5 @@
 
 #[cfg(test)]
 mod gates;
+#[cfg(test)]
+mod words;

@@ -1,9 +1,11 @@
+//! Words of bits of lz_arith.
+
 ghost use Rattle.std.specs.Prelude.{◌≡◌, ◌+◌, ◌<◌, ◌≤◌, IfOk, OnOk};
 ghost use Rattle.lz_cnf.specs.Models.{variable_bound};
 ghost use Rattle.lz_gates.specs.Circuits.{IsLit};
 ghost use Rattle.lz_arith.specs.Bits.{AreBits};
 
-use super::*;
+use lz_arith::{Bits, binary_bits, choose_bits, convert_bits, truth_bit, unary_bits};
 use lz_base::{Binary, IntType, Memory, Unary};
 use lz_gates::Builder;
 use std::alloc::Global;
@@ -24,7 +26,7 @@ fn fresh_word(alloc: Global, builder: &mut Builder) -> Result<Bits, Memory>
 }
 
 /// How many literals a binary operator answers over fresh ones.
-#[tactic(auto, using(crate::proofs::FreshLemmas::binary_variables_most, crate::proofs::FreshLemmas::bits_still))]
+#[tactic(auto, using(lz_arith::proofs::FreshLemmas::binary_variables_most, lz_arith::proofs::FreshLemmas::bits_still))]
 fn binary_length(alloc: Global, op: Binary, t: IntType) -> Result<usize, Fail> {
     let mut builder = Builder::new(alloc).ok().ok_or("memory")?;
     let a = fresh_word(alloc, &mut builder).ok().ok_or("memory")?;
@@ -36,7 +38,7 @@ fn binary_length(alloc: Global, op: Binary, t: IntType) -> Result<usize, Fail> {
 }
 
 /// How many literals a unary operator answers over fresh ones.
-#[tactic(auto, using(crate::proofs::FreshLemmas::unary_variables_most))]
+#[tactic(auto, using(lz_arith::proofs::FreshLemmas::unary_variables_most))]
 fn unary_length(alloc: Global, op: Unary, t: IntType) -> Result<usize, Fail> {
     let mut builder = Builder::new(alloc).ok().ok_or("memory")?;
     let a = fresh_word(alloc, &mut builder).ok().ok_or("memory")?;
@@ -116,13 +118,13 @@ fn conversions_answer_the_word(rt: HostRuntime) -> Result<(), Fail> {
     )
     .ok()
     .ok_or("memory")?;
-    assert_eq!(rt; same.items(), a.items());
+    assert_eq!(rt; same.items(), a.items(), "from `int` to `unsigned`");
     Ok(())
 }
 
 /// A choice by a constant answers one of the words.
 #[test]
-#[tactic(auto, using(crate::proofs::FreshLemmas::bits_still))]
+#[tactic(auto, using(lz_arith::proofs::FreshLemmas::bits_still))]
 fn choices_by_a_constant_answer_a_word(rt: HostRuntime) -> Result<(), Fail> {
     let mut builder = Builder::new(rt.alloc()).ok().ok_or("memory")?;
     let a = fresh_word(rt.alloc(), &mut builder).ok().ok_or("memory")?;
@@ -131,7 +133,7 @@ fn choices_by_a_constant_answer_a_word(rt: HostRuntime) -> Result<(), Fail> {
     let chosen = choose_bits(rt.alloc(), &mut builder, test, &a, &b)
         .ok()
         .ok_or("memory")?;
-    assert_eq!(rt; chosen.items(), b.items());
+    assert_eq!(rt; chosen.items(), b.items(), "a false test takes the second");
     Ok(())
 }
 
@@ -144,6 +146,9 @@ fn truth_tests_answer_a_new_literal(rt: HostRuntime) -> Result<(), Fail> {
         .ok()
         .ok_or("memory")?;
     let before = a.items();
-    assert!(rt; before.len() == 32 && truth.0 > before[31].0);
+    assert!(rt;
+        before.len() == 32 && truth.0 > before[31].0,
+        "a literal of a variable behind those of the word"
+    );
     Ok(())
 }

@@ -1,6 +1,6 @@
 use Rattle.std.proofs.Common.{arith}
 use Rattle.lz_arith.proofs.FreshLemmas.{freshens_none, freshens_more}
-use Rattle.lz_arith.proofs.tests.fresh_word.Goals as goal
+use Rattle.lz_circuit_tests.proofs.words.fresh_word.Goals as goal
 
 pub loop-i-init : goal.loop-i-init
 loop-i-init c = rw c.new-bits.ensures (freshens_none _)
