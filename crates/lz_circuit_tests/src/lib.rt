@@ -5,4 +5,6 @@
 #[cfg(test)]
 mod gates;
 #[cfg(test)]
+mod straight;
+#[cfg(test)]
 mod words;

@@ -3,4 +3,3 @@ pub mod NodeWeight
 pub mod Construction
 pub mod Drafts
 pub mod Assignment
-pub mod Example

@@ -15,6 +15,3 @@ mod write;
 pub use evaluate::eval;
 pub use make::nodes;
 pub use node::{Node, NodeList, Nodes};
-
-#[cfg(test)]
-mod tests;

@@ -1,13 +1,16 @@
+//! The nodes of a straight program, by lz_ssa.
+
 ghost use Rattle.std.specs.Prelude.{◌≡◌, IfOk, [], ◌∷◌};
 ghost use Rattle.lz_flat.specs.Programs.{expression, statement, straight_program};
-ghost use Rattle.lz_ssa.specs.Example.{example, greater_test};
+ghost use Rattle.lz_circuit_tests.specs.Example.{example, greater_test};
 
-use crate::{eval, nodes};
 use lz_base::{Binary, BreakKind, IntType, Memory, Sequence};
 use lz_flat::{FlatExpr, Guarded, GuardedList, Instr, Spot, Straight, binary_expr, straight_run};
+use lz_ssa::{eval, nodes};
 use std::alloc::Global;
 use std::test::Fail;
 
+/// Whether one more than word 0 is greater than it.
 fn greater(alloc: Global) -> Result<FlatExpr, Memory>
     ensures { IfOk result (λ e. expression e ≡ greater_test) }
 {
@@ -18,6 +21,7 @@ fn greater(alloc: Global) -> Result<FlatExpr, Memory>
     binary_expr(alloc, Binary::Gt, IntType::Int, sum, word)
 }
 
+/// The program that takes an input as word 0 and checks that.
 fn program(alloc: Global) -> Result<Straight, Memory>
     ensures { IfOk result (λ straight. straight_program straight ≡ example) }
 {
@@ -62,13 +66,16 @@ fn fails_with(alloc: Global, straight: &Straight, input: u32) -> Result<(bool, b
 #[test]
 fn the_greatest_int_has_no_greater(rt: HostRuntime) -> Result<(), Fail> {
     let straight = program(rt.alloc()).ok().ok_or("memory")?;
-    let table: [(u32, bool); 2] = [(2_147_483_647, true), (5, false)];
-    for (input, fails) in table {
+    let table: [(u32, bool, &str); 2] = [
+        (2_147_483_647, true, "one more is the least `int`"),
+        (5, false, "6 is greater"),
+    ];
+    for (input, fails, reason) in table {
         let (by_nodes, by_itself) = fails_with(rt.alloc(), &straight, input)
             .ok()
             .ok_or("memory")?;
-        assert_eq!(rt; by_nodes, fails, "{input}");
-        assert_eq!(rt; by_itself, fails, "{input}");
+        assert_eq!(rt; by_nodes, fails, "by its nodes: {reason}");
+        assert_eq!(rt; by_itself, fails, "by itself: {reason}");
     }
     Ok(())
 }
