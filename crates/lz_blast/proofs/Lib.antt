@@ -5,4 +5,3 @@ pub mod WordsMadeLemmas
 pub mod NodeLemmas
 pub mod FormulasLemmas
 pub mod TurnsLemmas
-pub mod ExampleLemmas

@@ -8,6 +8,3 @@ mod node;
 
 pub use formula::{Blasted, blast};
 pub use input::BitsList;
-
-#[cfg(test)]
-mod tests;

@@ -1,10 +1,12 @@
+//! The formula of nodes, by lz_blast.
+
 ghost use Rattle.std.specs.Prelude.{◌≤◌, IfOk};
 ghost use Rattle.lz_base.specs.Limits.{cost_limit};
 ghost use Rattle.lz_ssa.specs.NodeValues.{AreWellFormed};
 ghost use Rattle.lz_ssa.specs.NodeWeight.{nodes_weight};
 
-use crate::{Blasted, blast};
 use lz_base::{Binary, IntType, Memory};
+use lz_blast::{Blasted, blast};
 use lz_cnf::Assignment;
 use lz_ssa::{Node, NodeList, Nodes};
 use std::alloc::Global;
@@ -55,10 +57,14 @@ fn values_of(alloc: Global, input: u32, differs: bool) -> Result<Assignment, Mem
 #[test]
 fn five_alone_is_a_model(rt: HostRuntime) -> Result<(), Fail> {
     let blasted = formula_of_five(rt.alloc()).ok().ok_or("memory")?;
-    assert_eq!(rt; blasted.formula.variables, 34);
+    assert_eq!(rt; blasted.formula.variables, 34, "variables");
     let bits = blasted.inputs.items();
-    assert_eq!(rt; bits.len(), 2);
-    assert_eq!(rt; [bits[0].items().len(), bits[1].items().len()], [32, 0]);
+    assert_eq!(rt; bits.len(), 2, "inputs");
+    assert_eq!(rt;
+        [bits[0].items().len(), bits[1].items().len()],
+        [32, 0],
+        "bits of an input that is read, and of one that is not"
+    );
     let table = [
         (5, false, true, "the input that fails"),
         (5, true, false, "5 does not differ from itself"),
@@ -67,7 +73,7 @@ fn five_alone_is_a_model(rt: HostRuntime) -> Result<(), Fail> {
     ];
     for (input, differs, want, reason) in table {
         let values = values_of(rt.alloc(), input, differs).ok().ok_or("memory")?;
-        assert_eq!(rt; values.items().len(), 34);
+        assert_eq!(rt; values.items().len(), 34, "{reason}");
         assert_eq!(rt; blasted.formula.satisfied_by(&values), want, "{reason}");
     }
     Ok(())

@@ -3,8 +3,8 @@ use Rattle.lz_base.specs.declared.operator.Binary.TheVariants.{Eq}
 use Rattle.lz_base.specs.declared.word.IntType.TheVariants.{Unsigned}
 use Rattle.lz_ssa.specs.declared.node.Node.{Node}
 use Rattle.lz_ssa.specs.declared.node.Node.TheVariants as nodes
-use Rattle.lz_blast.proofs.ExampleLemmas.{three_formed, three_light}
-use Rattle.lz_blast.proofs.tests.equal_to_five.Goals as goal
+use Rattle.lz_circuit_tests.proofs.ExampleLemmas.{three_formed, three_light}
+use Rattle.lz_circuit_tests.proofs.formula.equal_to_five.Goals as goal
 
 pub returns-clause-formed : goal.returns-clause-formed
 returns-clause-formed c =
