@@ -9,6 +9,3 @@ mod trail;
 mod watch;
 
 pub use trail::{Propagated, Trail};
-
-#[cfg(test)]
-mod tests;

@@ -8,6 +8,3 @@ mod search;
 
 pub use counts::Counts;
 pub use search::{Solved, solve, solve_counted};
-
-#[cfg(test)]
-mod tests;

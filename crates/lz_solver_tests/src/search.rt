@@ -1,8 +1,10 @@
-use crate::{Solved, solve};
+//! The search by lz_solve, and the parts that it is made of.
+
 use lz_analyze::learn;
 use lz_base::{Memory, Sequence};
 use lz_cnf::{Clause, Cnf, Lit};
 use lz_prop::{Propagated, Trail};
+use lz_solve::{Solved, solve};
 use std::alloc::Global;
 use std::process::Abort;
 use std::test::Fail;

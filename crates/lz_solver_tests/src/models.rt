@@ -1,4 +1,6 @@
-use super::*;
+//! Formulas and models of lz_cnf.
+
+use lz_cnf::{Assignment, Clause, Clauses, Cnf, Lit};
 use std::alloc::Global;
 use std::test::Fail;
 

@@ -1,5 +1,7 @@
-use super::*;
+//! Propagation by lz_prop.
+
 use lz_cnf::{Clause, Clauses, Cnf, Lit};
+use lz_prop::{Propagated, Trail};
 use std::alloc::Global;
 use std::test::Fail;
 

@@ -1,6 +1,7 @@
-use super::*;
-use lz_base::Sequence;
+//! Logs and proof texts of lz_log.
+
 use lz_cnf::{Clause, Clauses, Cnf, Lit};
+use lz_log::{Hints, Log, LogStep, ProofError, Scratch, check_log, print_proof, read_proof};
 use std::alloc::Global;
 use std::test::Fail;
 
