@@ -1,5 +1,5 @@
 -- The first look at a clause, and what is left of a clause.
-use Rattle.std.proofs.Common.{◌≡◌, ℕ, suc, ◌+◌, ◌<◌, ◌≤◌, ◌⊎◌, inl, inr, ⊎_elim, leb, List, [], ◌∷◌, ◌++◌, length, get_or, take, sym, ◌∙◌, ap, subst, arith}
+use Rattle.std.proofs.Common.{◌≡◌, ℕ, suc, ◌+◌, ◌^◌, ◌<◌, ◌≤◌, ◌⊎◌, inl, inr, ⊎_elim, leb, List, [], ◌∷◌, ◌++◌, length, get_or, take, sym, ◌∙◌, ap, subst, arith}
 use Rattle.std.specs.List.{All, Contains}
 use Rattle.std.specs.Vec.{vec_capacity}
 use Rattle.std.proofs.lemmas.Bool.{leb-true, le-leb}
@@ -189,7 +189,7 @@ guard_kept t watch one other kept within is now were =
 
 -- there is room for two watchers more, and their numbers fit
 pub record HasPlaces (t : Inner) : Type 0 where
-  pub few : length t.watch.watchers.items + 2 < 4294967296
+  pub few : length t.watch.watchers.items + 2 < 2 ^ 32
   pub room : length t.watch.watchers.items + 2 ≤ vec_capacity t.watch.watchers
 
 pub places : (t : Inner) → IsKept t → t.seen < length (clauses_of t.store) → HasPlaces t

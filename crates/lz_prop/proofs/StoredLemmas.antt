@@ -4,7 +4,7 @@ use Rattle.std.proofs.lemmas.List.{length-append, take_all}
 use Rattle.lz_cnf.specs.declared.clause.Lit.{Lit}
 use Rattle.lz_prop.specs.declared.store.Store.{Store}
 use Rattle.lz_prop.specs.Parts.{cut_at}
-use Rattle.lz_prop.specs.Stored.{IsStore, IsFilled, clauses_of}
+use Rattle.lz_prop.specs.Stored.{IsStore, IsFilled, clause_limit, clauses_of}
 use Rattle.lz_prop.proofs.StoreLemmas.{cut_more, are_cut_more}
 
 -- all literals were added, and the bound was
@@ -14,7 +14,7 @@ pub record IsEnded (old now u : Store) (clause : List Lit) (count end : ℕ) : T
   pub literals : u.literals ≡ now.literals
   pub bounds : u.bounds.items ≡ now.bounds.items ++ end ∷ []
   pub end_is : end ≡ length now.literals.items
-  pub few : length old.bounds.items < 2147483647
+  pub few : length old.bounds.items < clause_limit
 
 literals_are : (old now u : Store) (clause : List Lit) (count end : ℕ) → IsEnded old now u clause count end → u.literals.items ≡ old.literals.items ++ clause
 literals_are old now u clause count end is =

@@ -9,10 +9,14 @@ use Rattle.lz_prop.specs.Parts.{cut_at, AreCut}
 abbrev pub clauses_of : Store → List (List Lit)
 clauses_of s = cut_at s.literals.items s.bounds.items
 
--- what holds of a store; twice the number of clauses fits too
+-- the most bounds that a store has, one more than its clauses: twice as many numbers are below 2 ^ 32
+abbrev pub clause_limit : ℕ
+clause_limit = 2147483647
+
+-- what holds of a store
 pub record IsStore (s : Store) : Type 0 where
   pub cut : AreCut s.literals.items s.bounds.items
-  pub few : length s.bounds.items ≤ 2147483647
+  pub few : length s.bounds.items ≤ clause_limit
 
 -- the literals of a clause are being added: so many stand at the end
 pub record IsFilled (old now : Store) (clause : List Lit) (count : ℕ) : Type 0 where

@@ -1,11 +1,15 @@
-ghost use Rattle.std.specs.Prelude.{◌≡◌, ◌+◌, ◌<◌, ◌≤◌, [], ◌∷◌, ◌++◌, length, slice_index_or, slice_range, List, IfOk, OnOk, OnErr};
+ghost use Rattle.std.specs.Prelude.{◌≡◌, ◌+◌, ◌^◌, ◌<◌, ◌≤◌, [], ◌∷◌, ◌++◌, length, slice_index_or, slice_range, List, IfOk, OnOk, OnErr};
 ghost use Rattle.std.specs.Vec.{vec_len, vec_capacity};
 ghost use Rattle.lz_cnf.specs.declared.clause.Lit.{Lit};
-ghost use Rattle.lz_prop.specs.Stored.{IsStore, clauses_of};
+ghost use Rattle.lz_prop.specs.Stored.{IsStore, clause_limit, clauses_of};
 
 use lz_base::Memory;
 use lz_cnf::Lit;
 use std::alloc::Global;
+
+/// The most bounds that a store has, of which there is one more than clauses: two watchers of each clause have numbers of
+/// 32 bits.
+const CLAUSE_LIMIT: usize = 2_147_483_647;
 
 /// Kept clauses, one behind the other in one vector.
 #[derive(Drop)]
@@ -64,14 +68,14 @@ impl Store {
     fn reserve(&mut self, len: usize) -> Result<(), Memory>
         ensures literals { self.new.literals.items ≡ self.old.literals.items }
         ensures bounds { self.new.bounds.items ≡ self.old.bounds.items }
-        ensures few { OnOk result (length self.new.literals.items + len < 4294967296) }
-        ensures few_bounds { OnOk result (length self.new.bounds.items < 2147483647) }
+        ensures few { OnOk result (length self.new.literals.items + len < 2 ^ 32) }
+        ensures few_bounds { OnOk result (length self.new.bounds.items < clause_limit) }
         ensures literals_room { OnOk result (vec_len self.new.literals + len ≤ vec_capacity self.new.literals) }
         ensures bounds_room { OnOk result (vec_len self.new.bounds < vec_capacity self.new.bounds) }
     {
         if self.literals.len() > u32::MAX as usize
             || len > u32::MAX as usize - self.literals.len()
-            || self.bounds.len() >= 2147483647
+            || self.bounds.len() >= CLAUSE_LIMIT
         {
             return Err(Memory);
         }
@@ -95,8 +99,8 @@ impl Store {
     /// Keeps one more clause, for which there is room.
     fn put(&mut self, clause: &[Lit])
         requires store { IsStore self.old }
-        requires few { length self.old.literals.items + length clause.now < 4294967296 }
-        requires few_bounds { length self.old.bounds.items < 2147483647 }
+        requires few { length self.old.literals.items + length clause.now < 2 ^ 32 }
+        requires few_bounds { length self.old.bounds.items < clause_limit }
         requires literals_room { vec_len self.old.literals + length clause.now ≤ vec_capacity self.old.literals }
         requires bounds_room { vec_len self.old.bounds < vec_capacity self.old.bounds }
         ensures store { IsStore self.new }

@@ -1,4 +1,4 @@
-ghost use Rattle.std.specs.Prelude.{◌≡◌, ◌+◌, ◌-◌, ◌*◌, ◌<◌, ◌≤◌, [], ◌∷◌, ◌++◌, length, slice_index, slice_set, IfOk, OnOk};
+ghost use Rattle.std.specs.Prelude.{◌≡◌, ◌+◌, ◌-◌, ◌*◌, ◌^◌, ◌<◌, ◌≤◌, [], ◌∷◌, ◌++◌, length, slice_index, slice_set, IfOk, OnOk};
 ghost use Rattle.std.specs.Vec.{vec_len, vec_capacity};
 ghost use Rattle.lz_prop.specs.Watch.{AreListed, twin, next_without, firsts_without};
 ghost use Rattle.lz_prop.specs.Watchers.{guards_of, next_of};
@@ -64,7 +64,7 @@ impl Watch {
     pub fn push(&mut self, lit: Lit)
         requires listed { AreListed (guards_of self.old) (next_of self.old) self.old.firsts.items }
         requires number { lit.0 < length self.old.firsts.items }
-        requires few { length self.old.watchers.items + 1 < 4294967296 }
+        requires few { length self.old.watchers.items + 1 < 2 ^ 32 }
         requires room { vec_len self.old.watchers < vec_capacity self.old.watchers }
         ensures listed { AreListed (guards_of self.new) (next_of self.new) self.new.firsts.items }
         ensures guards { guards_of self.new ≡ guards_of self.old ++ lit ∷ [] }
@@ -112,7 +112,7 @@ impl Watch {
         requires before { before ≤ length self.old.watchers.items }
         requires some { 0 < at }
         requires within { at ≤ length self.old.watchers.items }
-        requires few { at < 4294967296 }
+        requires few { at < 2 ^ 32 }
         ensures guards { guards_of self.new ≡ slice_set (guards_of self.old) (at - 1) to }
         ensures next { next_of self.new ≡ slice_set (next_without (next_of self.old) before (slice_index (next_of self.old) (at - 1))) (at - 1) (slice_index (firsts_without self.old.firsts.items lit.0 before (slice_index (next_of self.old) (at - 1))) to.0) }
         ensures firsts { self.new.firsts.items ≡ slice_set (firsts_without self.old.firsts.items lit.0 before (slice_index (next_of self.old) (at - 1))) to.0 at }
