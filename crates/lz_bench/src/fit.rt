@@ -6,6 +6,9 @@ ghost use Rattle.lz_cnf.specs.Models.{IsFormula, variable_of};
 
 use lz_cnf::{Cnf, Lit};
 
+/// 2^32: clauses have numbers of 32 bits, and a search adds one at each conflict.
+const CLAUSE_BOUND: u64 = 4_294_967_296;
+
 /// Whether the clause has only variables below this number.
 fn has_only(clause: &[Lit], variables: u32) -> bool
     ensures { IsTrue result → All (λ lit. variable_of lit < variables) clause.now }
@@ -39,8 +42,8 @@ pub fn has_room(cnf: &Cnf, conflicts: u64) -> bool
     ensures some { IsTrue result → 1 ≤ conflicts }
     ensures room { IsTrue result → length cnf.now.clauses + conflicts < 2 ^ 32 }
 {
-    if conflicts == 0 || conflicts >= 4_294_967_296 {
+    if conflicts == 0 || conflicts >= CLAUSE_BOUND {
         return false;
     }
-    (cnf.clauses.items().len() as u64) < 4_294_967_296 - conflicts
+    (cnf.clauses.items().len() as u64) < CLAUSE_BOUND - conflicts
 }

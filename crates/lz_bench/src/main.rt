@@ -18,6 +18,9 @@ use lz_solve::{Counts, Solved, solve_counted};
 use std::alloc::Global;
 use std::{env, fs, io};
 
+/// The most bytes of a proof text, as in mode recheck: 256 MiB.
+const TEXT_LIMIT: usize = 268_435_456;
+
 /// What is done with an answer beside telling it.
 #[derive(Clone, Copy, PartialEq, Eq)]
 enum Further {
@@ -185,7 +188,7 @@ fn bad_step(alloc: Global, formula: &Cnf, log: &Log) -> Result<u64, Memory>
 
 /// Reads a proof text and checks its log, as mode recheck does.
 fn recheck(rt: &impl Print, alloc: Global, text: &str) -> Result<(), Trouble> {
-    if text.len() > 268_435_456 {
+    if text.len() > TEXT_LIMIT {
         println!(rt; "LIMIT")?;
         return Ok(());
     }
