@@ -6,11 +6,10 @@ use lz_cnf::{Clause, Cnf, Lit};
 use lz_prop::{Propagated, Trail};
 use lz_solve::{Solved, solve};
 use std::alloc::Global;
-use std::process::Abort;
 use std::test::Fail;
 
 /// Ends a clause in the tables.
-const END: u32 = 4294967295;
+const END: u32 = u32::MAX;
 
 /// The formula of clauses that are given by the numbers of their literals.
 fn formula(alloc: Global, variables: u32, numbers: &[u32]) -> Result<Cnf, Memory> {
@@ -44,101 +43,63 @@ fn answer(alloc: Global, cnf: &Cnf, conflicts: u64) -> Result<(&'static str, usi
     }
 }
 
-/// One row: the formula's clauses, the conflicts that are allowed, and the answer.
-fn row(
-    rt: &impl Abort,
-    alloc: Global,
-    reason: &str,
-    variables: u32,
-    numbers: &[u32],
-    conflicts: u64,
-    kind: &str,
-    count: usize,
-) -> Result<(), Memory> {
-    let cnf = formula(alloc, variables, numbers)?;
-    let (was, len) = answer(alloc, &cnf, conflicts)?;
-    assert!(rt; was == kind, "{reason}");
-    assert!(rt; len == count, "{reason}");
-    Ok(())
-}
-
+/// Formulas, each with the conflicts that are allowed and the answer.
 #[test]
 fn answers_with_ample_memory(rt: HostRuntime) -> Result<(), Fail> {
     let alloc = rt.alloc();
-    let square = &[0, 2, END, 1, 2, END, 0, 3, END, 1, 3, END];
-    row(
-        &rt,
-        alloc,
-        "no variables and no clauses",
-        0,
-        &[],
-        1,
-        "model",
-        0,
-    )?;
-    row(&rt, alloc, "no clauses", 1, &[], 1, "model", 1)?;
-    row(&rt, alloc, "one literal", 1, &[1, END], 1, "model", 1)?;
-    row(
-        &rt,
-        alloc,
-        "a repeated literal is one",
-        1,
-        &[0, 0, END],
-        1,
-        "model",
-        1,
-    )?;
-    row(&rt, alloc, "both signs", 1, &[0, 1, END], 1, "model", 1)?;
-    row(
-        &rt,
-        alloc,
-        "twice the same clause",
-        2,
-        &[0, 2, END, 0, 2, END],
-        1,
-        "model",
-        2,
-    )?;
-    row(
-        &rt,
-        alloc,
-        "propagation alone refutes",
-        2,
-        &[0, END, 1, 2, END, 1, 3, END],
-        1,
-        "refuted",
-        1,
-    )?;
-    row(
-        &rt,
-        alloc,
-        "a variable that is true and false",
-        1,
-        &[0, END, 1, END],
-        1,
-        "refuted",
-        1,
-    )?;
-    row(
-        &rt,
-        alloc,
-        "no value of two variables, one conflict",
-        2,
-        square,
-        1,
-        "spent",
-        1,
-    )?;
-    row(
-        &rt,
-        alloc,
-        "no value of two variables, nine conflicts",
-        2,
-        square,
-        9,
-        "refuted",
-        2,
-    )?;
+    let square: &[u32] = &[0, 2, END, 1, 2, END, 0, 3, END, 1, 3, END];
+    let rows: [(u32, &[u32], u64, &str, usize, &str); 10] = [
+        (0, &[], 1, "model", 0, "no variables and no clauses"),
+        (1, &[], 1, "model", 1, "no clauses"),
+        (1, &[1, END], 1, "model", 1, "one literal"),
+        (1, &[0, 0, END], 1, "model", 1, "a repeated literal is one"),
+        (1, &[0, 1, END], 1, "model", 1, "both signs"),
+        (
+            2,
+            &[0, 2, END, 0, 2, END],
+            1,
+            "model",
+            2,
+            "twice the same clause",
+        ),
+        (
+            2,
+            &[0, END, 1, 2, END, 1, 3, END],
+            1,
+            "refuted",
+            1,
+            "propagation alone refutes",
+        ),
+        (
+            1,
+            &[0, END, 1, END],
+            1,
+            "refuted",
+            1,
+            "a variable that is true and false",
+        ),
+        (
+            2,
+            square,
+            1,
+            "spent",
+            1,
+            "no value of two variables, one conflict",
+        ),
+        (
+            2,
+            square,
+            9,
+            "refuted",
+            2,
+            "no value of two variables, nine conflicts",
+        ),
+    ];
+    for (variables, numbers, conflicts, kind, count, reason) in rows {
+        let cnf = formula(alloc, variables, numbers)?;
+        let (was, len) = answer(alloc, &cnf, conflicts)?;
+        assert!(rt; was == kind && len == count, "{reason}");
+    }
     Ok(())
 }
 
@@ -182,6 +143,7 @@ fn added(alloc: Global, cnf: &Cnf) -> Result<(u32, Propagated), Memory> {
     Ok((number, answer))
 }
 
+/// What propagation finds, what is learnt of it, and how an added clause is numbered.
 #[test]
 fn trail_and_learning(rt: HostRuntime) -> Result<(), Fail> {
     let alloc = rt.alloc();
