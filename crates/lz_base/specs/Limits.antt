@@ -1,4 +1,4 @@
--- Trusted: the limits on the length of a source file and on the cost of a program.
+-- Trusted: the limits on the length of a source file, on the cost of a program and on the threads that it may create.
 use Rattle.std.specs.Prelude.{ℕ}
 
 -- the most bytes that a source file may have
@@ -8,3 +8,7 @@ file_limit = 1048576
 -- the most that a program may cost within its bounds
 abbrev pub cost_limit : ℕ
 cost_limit = 10000000
+
+-- the most threads that a program may create within its bounds
+abbrev pub slot_limit : ℕ
+slot_limit = 16

@@ -1,6 +1,6 @@
 -- Trusted: the bounds of a call on runs, where no word says others, and the limits on programs.
 use Rattle.std.specs.Prelude.{ℕ}
-pub use Rattle.lz_base.specs.Limits.{cost_limit}
+pub use Rattle.lz_base.specs.Limits.{cost_limit, slot_limit}
 
 -- The bounds of a call: the turns of a loop each time that it is entered, the rounds of a run, and the
 -- conflicts that a solver may spend.
@@ -44,10 +44,6 @@ checking turns = within turns default_rounds
 -- those of a replay
 abbrev pub replaying : ℕ → Bounds
 replaying turns = within turns replay_rounds
-
--- the most threads that a program may create within its bounds
-abbrev pub slot_limit : ℕ
-slot_limit = 16
 
 -- the most bytes that a schedule file may have
 abbrev pub schedule_limit : ℕ

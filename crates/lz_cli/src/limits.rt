@@ -1,6 +1,6 @@
 //! The bounds of a call on runs, and the limits on programs.
 
-pub use lz_base::COST_LIMIT;
+pub use lz_base::{COST_LIMIT, SLOT_LIMIT};
 
 /// The turns that a loop may take each time that it is entered, where no word says it.
 pub const DEFAULT_UNWIND: u32 = 2;
@@ -10,9 +10,6 @@ pub const GREATEST_UNWIND: u64 = 100;
 
 /// The rounds that a schedule may take, where no word says it.
 pub const DEFAULT_ROUNDS: u32 = 2;
-
-/// The most threads that a program may create within its bounds.
-pub const SLOT_LIMIT: u64 = 16;
 
 /// The rounds with which the cost of a program is taken that is run by a schedule.
 pub const REPLAY_ROUNDS: u32 = 1;

@@ -1,5 +1,6 @@
 -- Trusted: the answer of a store to an action, and its condition.
 use Rattle.std.specs.Prelude.{ℕ, ◌≤◌, ⊤}
+use Rattle.lz_base.specs.Limits.{slot_limit}
 use Rattle.lz_model.specs.declared.actions.Action.{Action}
 use Rattle.lz_model.specs.declared.actions.Action.TheVariants.{Loc, Input, Check, Assume, Rd, Wr, Reset, Lock, Unlock, Park, Wake, Signal, Broadcast, Create, Join, HoldOn, HoldOff, End}
 use Rattle.lz_model.specs.Store.{State, went, blocked, broke}
@@ -19,9 +20,9 @@ state_behind before (went state) = state
 state_behind before blocked = before
 state_behind before (broke kind) = before
 
--- the greatest number of a thread
+-- the greatest number of a thread: those that are created are numbered from 1
 abbrev pub last_thread : ℕ
-last_thread = 16
+last_thread = slot_limit
 
 -- the action creates no thread past the last
 abbrev pub IsWithin : Action → Type 0
