@@ -6,9 +6,13 @@ use Rattle.lz_base.specs.declared.operator.Binary.{Binary}
 use Rattle.lz_base.specs.declared.operator.Binary.TheVariants.{Mul, Div, Rem, Add, Sub, Shl, Shr, Lt, Gt, Le, Ge, Eq, Ne, BitAnd, BitXor, BitOr, Both, Either}
 use Rattle.lz_base.specs.declared.word.IntType.{IntType}
 
+-- how many bits a word has
+abbrev pub word_width : ℕ
+word_width = 32
+
 -- how many bits a word of a type has
 abbrev pub width : IntType → ℕ
-width t = 32
+width t = word_width
 
 -- of a unary operator
 abbrev pub unary_variables : Unary → ℕ

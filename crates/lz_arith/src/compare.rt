@@ -4,6 +4,7 @@ ghost use Rattle.lz_base.specs.Words.{signed};
 ghost use Rattle.lz_cnf.specs.Models.{variable_bound};
 ghost use Rattle.lz_gates.specs.Circuits.{Assignment, value, xor, choice, IsLit, AreLits, Makes};
 ghost use Rattle.lz_arith.specs.Bits.{bit, word, AreBits};
+ghost use Rattle.lz_arith.specs.Sizes.{word_width};
 
 use crate::bitwise::{Bitwise, bitwise_words};
 use crate::lists::flipped;
@@ -69,11 +70,11 @@ fn signed_less(
     left: &[Lit],
     right: &[Lit],
 ) -> Result<Lit, Memory>
-    requires left { AreBits builder.old 32 left.now }
-    requires right { AreBits builder.old 32 right.now }
-    requires room { builder.old.variables + 64 < variable_bound }
+    requires left { AreBits builder.old word_width left.now }
+    requires right { AreBits builder.old word_width right.now }
+    requires room { builder.old.variables + 2 * word_width < variable_bound }
     ensures lit { IfOk result (IsLit builder.new) }
-    ensures made { IfOk result (λ lit. Makes builder.old builder.new 64 320
+    ensures made { IfOk result (λ lit. Makes builder.old builder.new (2 * word_width) (10 * word_width)
         (λ a. value a lit ≡ int_lt (signed IntType.Int (word a left.now)) (signed IntType.Int (word a right.now)))) }
 {
     let low = flipped(alloc, left)?;
@@ -90,11 +91,11 @@ pub(crate) fn less(
     left: &[Lit],
     right: &[Lit],
 ) -> Result<Lit, Memory>
-    requires left { AreBits builder.old 32 left.now }
-    requires right { AreBits builder.old 32 right.now }
-    requires room { builder.old.variables + 64 < variable_bound }
+    requires left { AreBits builder.old word_width left.now }
+    requires right { AreBits builder.old word_width right.now }
+    requires room { builder.old.variables + 2 * word_width < variable_bound }
     ensures lit { IfOk result (IsLit builder.new) }
-    ensures made { IfOk result (λ lit. Makes builder.old builder.new 64 320
+    ensures made { IfOk result (λ lit. Makes builder.old builder.new (2 * word_width) (10 * word_width)
         (λ a. value a lit ≡ int_lt (signed t (word a left.now)) (signed t (word a right.now)))) }
 {
     match t {

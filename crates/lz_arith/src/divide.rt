@@ -4,6 +4,7 @@ ghost use Rattle.lz_base.specs.Words.{signed, wrapped, binary_value};
 ghost use Rattle.lz_cnf.specs.Models.{variable_bound};
 ghost use Rattle.lz_gates.specs.Circuits.{Assignment, value, IsLit, AreLits, Makes};
 ghost use Rattle.lz_arith.specs.Bits.{bit, word, negations, AreBits};
+ghost use Rattle.lz_arith.specs.Sizes.{word_width};
 
 use crate::add::{add_with_carry, minus_where};
 use crate::choose::{choose_words, mask_word};
@@ -80,10 +81,10 @@ fn signed_quotient(
     left: &[Lit],
     divisor: &[Lit],
 ) -> Result<Bits, Memory>
-    requires left { AreBits builder.old 32 left.now }
-    requires divisor { AreBits builder.old 32 divisor.now }
+    requires left { AreBits builder.old word_width left.now }
+    requires divisor { AreBits builder.old word_width divisor.now }
     requires room { builder.old.variables + 4577 < variable_bound }
-    ensures bits { IfOk result (AreBits builder.new 32) }
+    ensures bits { IfOk result (AreBits builder.new word_width) }
     ensures made { IfOk result (λ r. Makes builder.old builder.new 4577 22852
         (λ a. 0 < word a divisor.now → word a r ≡ wrapped (int_div (signed IntType.Int (word a left.now)) (signed IntType.Int (word a divisor.now))))) }
 {
@@ -102,10 +103,10 @@ fn signed_remainder(
     left: &[Lit],
     divisor: &[Lit],
 ) -> Result<Bits, Memory>
-    requires left { AreBits builder.old 32 left.now }
-    requires divisor { AreBits builder.old 32 divisor.now }
+    requires left { AreBits builder.old word_width left.now }
+    requires divisor { AreBits builder.old word_width divisor.now }
     requires room { builder.old.variables + 4577 < variable_bound }
-    ensures bits { IfOk result (AreBits builder.new 32) }
+    ensures bits { IfOk result (AreBits builder.new word_width) }
     ensures made { IfOk result (λ r. Makes builder.old builder.new 4577 22852
         (λ a. 0 < word a divisor.now → word a r ≡ wrapped (int_rem (signed IntType.Int (word a left.now)) (signed IntType.Int (word a divisor.now))))) }
 {
@@ -123,10 +124,10 @@ fn unless_zero(
     divisor: &[Lit],
     bits: &[Lit],
 ) -> Result<Bits, Memory>
-    requires divisor { AreBits builder.old 32 divisor.now }
-    requires bits { AreBits builder.old 32 bits.now }
+    requires divisor { AreBits builder.old word_width divisor.now }
+    requires bits { AreBits builder.old word_width bits.now }
     requires room { builder.old.variables + 33 < variable_bound }
-    ensures bits { IfOk result (AreBits builder.new 32) }
+    ensures bits { IfOk result (AreBits builder.new word_width) }
     ensures made { IfOk result (λ r. Makes builder.old builder.new 33 129
         (λ a. word a r ≡ (if word a divisor.now == 0 then 0 else word a bits.now))) }
 {
@@ -142,10 +143,10 @@ fn plain_quotient(
     left: &[Lit],
     divisor: &[Lit],
 ) -> Result<Bits, Memory>
-    requires left { AreBits builder.old 32 left.now }
-    requires divisor { AreBits builder.old 32 divisor.now }
+    requires left { AreBits builder.old word_width left.now }
+    requires divisor { AreBits builder.old word_width divisor.now }
     requires room { builder.old.variables + 4577 < variable_bound }
-    ensures bits { IfOk result (AreBits builder.new 32) }
+    ensures bits { IfOk result (AreBits builder.new word_width) }
     ensures made { IfOk result (λ r. Makes builder.old builder.new 4577 22852
         (λ a. 0 < word a divisor.now → word a r ≡ wrapped (int_div (signed IntType.Unsigned (word a left.now)) (signed IntType.Unsigned (word a divisor.now))))) }
 {
@@ -161,10 +162,10 @@ fn quotient_of_kind(
     left: &[Lit],
     divisor: &[Lit],
 ) -> Result<Bits, Memory>
-    requires left { AreBits builder.old 32 left.now }
-    requires divisor { AreBits builder.old 32 divisor.now }
+    requires left { AreBits builder.old word_width left.now }
+    requires divisor { AreBits builder.old word_width divisor.now }
     requires room { builder.old.variables + 4577 < variable_bound }
-    ensures bits { IfOk result (AreBits builder.new 32) }
+    ensures bits { IfOk result (AreBits builder.new word_width) }
     ensures made { IfOk result (λ r. Makes builder.old builder.new 4577 22852
         (λ a. 0 < word a divisor.now → word a r ≡ wrapped (int_div (signed t (word a left.now)) (signed t (word a divisor.now))))) }
 {
@@ -182,10 +183,10 @@ pub(crate) fn quotient_word(
     left: &[Lit],
     divisor: &[Lit],
 ) -> Result<Bits, Memory>
-    requires left { AreBits builder.old 32 left.now }
-    requires divisor { AreBits builder.old 32 divisor.now }
+    requires left { AreBits builder.old word_width left.now }
+    requires divisor { AreBits builder.old word_width divisor.now }
     requires room { builder.old.variables + 4610 < variable_bound }
-    ensures bits { IfOk result (AreBits builder.new 32) }
+    ensures bits { IfOk result (AreBits builder.new word_width) }
     ensures made { IfOk result (λ r. Makes builder.old builder.new 4610 22981 (λ a. word a r ≡ binary_value Binary.Div (word a left.now) (word a divisor.now) t)) }
 {
     let bits = quotient_of_kind(alloc, builder, t, left, divisor)?;
@@ -200,10 +201,10 @@ fn plain_remainder(
     left: &[Lit],
     divisor: &[Lit],
 ) -> Result<Bits, Memory>
-    requires left { AreBits builder.old 32 left.now }
-    requires divisor { AreBits builder.old 32 divisor.now }
+    requires left { AreBits builder.old word_width left.now }
+    requires divisor { AreBits builder.old word_width divisor.now }
     requires room { builder.old.variables + 4577 < variable_bound }
-    ensures bits { IfOk result (AreBits builder.new 32) }
+    ensures bits { IfOk result (AreBits builder.new word_width) }
     ensures made { IfOk result (λ r. Makes builder.old builder.new 4577 22852
         (λ a. 0 < word a divisor.now → word a r ≡ wrapped (int_rem (signed IntType.Unsigned (word a left.now)) (signed IntType.Unsigned (word a divisor.now))))) }
 {
@@ -219,10 +220,10 @@ fn remainder_of_kind(
     left: &[Lit],
     divisor: &[Lit],
 ) -> Result<Bits, Memory>
-    requires left { AreBits builder.old 32 left.now }
-    requires divisor { AreBits builder.old 32 divisor.now }
+    requires left { AreBits builder.old word_width left.now }
+    requires divisor { AreBits builder.old word_width divisor.now }
     requires room { builder.old.variables + 4577 < variable_bound }
-    ensures bits { IfOk result (AreBits builder.new 32) }
+    ensures bits { IfOk result (AreBits builder.new word_width) }
     ensures made { IfOk result (λ r. Makes builder.old builder.new 4577 22852
         (λ a. 0 < word a divisor.now → word a r ≡ wrapped (int_rem (signed t (word a left.now)) (signed t (word a divisor.now))))) }
 {
@@ -240,10 +241,10 @@ pub(crate) fn remainder_word(
     left: &[Lit],
     divisor: &[Lit],
 ) -> Result<Bits, Memory>
-    requires left { AreBits builder.old 32 left.now }
-    requires divisor { AreBits builder.old 32 divisor.now }
+    requires left { AreBits builder.old word_width left.now }
+    requires divisor { AreBits builder.old word_width divisor.now }
     requires room { builder.old.variables + 4610 < variable_bound }
-    ensures bits { IfOk result (AreBits builder.new 32) }
+    ensures bits { IfOk result (AreBits builder.new word_width) }
     ensures made { IfOk result (λ r. Makes builder.old builder.new 4610 22981 (λ a. word a r ≡ binary_value Binary.Rem (word a left.now) (word a divisor.now) t)) }
 {
     let bits = remainder_of_kind(alloc, builder, t, left, divisor)?;

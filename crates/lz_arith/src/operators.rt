@@ -4,7 +4,7 @@ ghost use Rattle.lz_cnf.specs.Models.{negated, variable_bound};
 ghost use Rattle.lz_base.specs.Words.{truth, is_true, signed, unary_value, binary_value, converted};
 ghost use Rattle.lz_gates.specs.Circuits.{Assignment, Satisfies, value, IsLit, AreLits, Makes};
 ghost use Rattle.lz_arith.specs.Bits.{word, AreBits, is_negative};
-ghost use Rattle.lz_arith.specs.Sizes.{width, unary_variables, unary_clauses, binary_variables, binary_clauses, choice_variables, choice_clauses, test_variables, test_clauses};
+ghost use Rattle.lz_arith.specs.Sizes.{width, word_width, unary_variables, unary_clauses, binary_variables, binary_clauses, choice_variables, choice_clauses, test_variables, test_clauses};
 
 use crate::add::{add_words, minus_word, subtract_words};
 use crate::bitwise::{Bitwise, bitwise_words, or_gate};
@@ -23,7 +23,7 @@ use std::alloc::Global;
 /// The word of a truth value: the literal, and 31 that are false.
 fn truth_word(alloc: Global, builder: &Builder, lit: Lit) -> Result<Bits, Memory>
     requires lit { IsLit builder.now lit }
-    ensures bits { IfOk result (AreBits builder.now 32) }
+    ensures bits { IfOk result (AreBits builder.now word_width) }
     ensures made { IfOk result (λ r. Makes builder.now builder.now 0 0 (λ a. word a r ≡ truth (value a lit))) }
 {
     let off = builder.falsity();
@@ -34,9 +34,9 @@ fn truth_word(alloc: Global, builder: &Builder, lit: Lit) -> Result<Bits, Memory
 
 /// `!`: whether the word is 0.
 fn not_word(alloc: Global, builder: &mut Builder, bits: &[Lit]) -> Result<Bits, Memory>
-    requires bits { AreBits builder.old 32 bits.now }
+    requires bits { AreBits builder.old word_width bits.now }
     requires room { builder.old.variables + 1 < variable_bound }
-    ensures bits { IfOk result (AreBits builder.new 32) }
+    ensures bits { IfOk result (AreBits builder.new word_width) }
     ensures made { IfOk result (λ r. Makes builder.old builder.new 1 33 (λ a. word a r ≡ truth (word a bits.now == 0))) }
 {
     let test = truth_test(alloc, builder, bits)?;
@@ -52,9 +52,9 @@ fn unary_word(
     t: IntType,
     bits: &[Lit],
 ) -> Result<Bits, Memory>
-    requires bits { AreBits builder.old 32 bits.now }
+    requires bits { AreBits builder.old word_width bits.now }
     requires room { builder.old.variables + unary_variables op < variable_bound }
-    ensures bits { IfOk result (AreBits builder.new 32) }
+    ensures bits { IfOk result (AreBits builder.new word_width) }
     ensures made { IfOk result (λ r. Makes builder.old builder.new (unary_variables op) (unary_clauses op) (λ a. word a r ≡ unary_value op (word a bits.now) t)) }
 {
     let _ = t;
@@ -79,10 +79,10 @@ fn sum_word(
     left: &[Lit],
     right: &[Lit],
 ) -> Result<Bits, Memory>
-    requires left { AreBits builder.old 32 left.now }
-    requires right { AreBits builder.old 32 right.now }
+    requires left { AreBits builder.old word_width left.now }
+    requires right { AreBits builder.old word_width right.now }
     requires room { builder.old.variables + 96 < variable_bound }
-    ensures bits { IfOk result (AreBits builder.new 32) }
+    ensures bits { IfOk result (AreBits builder.new word_width) }
     ensures made { IfOk result (λ r. Makes builder.old builder.new 96 448
         (λ a. word a r ≡ (word a left.now + word a right.now) % 2 ^ 32)) }
 {
@@ -100,11 +100,11 @@ fn order_word(
     right: &[Lit],
     turned: bool,
 ) -> Result<Bits, Memory>
-    requires left { AreBits builder.old 32 left.now }
-    requires right { AreBits builder.old 32 right.now }
-    requires room { builder.old.variables + 64 < variable_bound }
-    ensures bits { IfOk result (AreBits builder.new 32) }
-    ensures made { IfOk result (λ r. Makes builder.old builder.new 64 320
+    requires left { AreBits builder.old word_width left.now }
+    requires right { AreBits builder.old word_width right.now }
+    requires room { builder.old.variables + 2 * word_width < variable_bound }
+    ensures bits { IfOk result (AreBits builder.new word_width) }
+    ensures made { IfOk result (λ r. Makes builder.old builder.new (2 * word_width) (10 * word_width)
         (λ a. word a r ≡ truth (if turned then not (int_lt (signed t (word a left.now)) (signed t (word a right.now))) else int_lt (signed t (word a left.now)) (signed t (word a right.now))))) }
 {
     let lit = less(alloc, builder, t, left, right)?;
@@ -121,10 +121,10 @@ fn equality_word(
     right: &[Lit],
     turned: bool,
 ) -> Result<Bits, Memory>
-    requires left { AreBits builder.old 32 left.now }
-    requires right { AreBits builder.old 32 right.now }
+    requires left { AreBits builder.old word_width left.now }
+    requires right { AreBits builder.old word_width right.now }
     requires room { builder.old.variables + 33 < variable_bound }
-    ensures bits { IfOk result (AreBits builder.new 32) }
+    ensures bits { IfOk result (AreBits builder.new word_width) }
     ensures made { IfOk result (λ r. Makes builder.old builder.new 33 161
         (λ a. word a r ≡ truth (if turned then not (word a left.now == word a right.now) else (word a left.now == word a right.now)))) }
 {
@@ -148,10 +148,10 @@ fn both_word(
     left: &[Lit],
     right: &[Lit],
 ) -> Result<Bits, Memory>
-    requires left { AreBits builder.old 32 left.now }
-    requires right { AreBits builder.old 32 right.now }
+    requires left { AreBits builder.old word_width left.now }
+    requires right { AreBits builder.old word_width right.now }
     requires room { builder.old.variables + 3 < variable_bound }
-    ensures bits { IfOk result (AreBits builder.new 32) }
+    ensures bits { IfOk result (AreBits builder.new word_width) }
     ensures made { IfOk result (λ r. Makes builder.old builder.new 3 69
         (λ a. word a r ≡ truth (is_true (word a left.now) && is_true (word a right.now)))) }
 {
@@ -169,10 +169,10 @@ fn either_word(
     left: &[Lit],
     right: &[Lit],
 ) -> Result<Bits, Memory>
-    requires left { AreBits builder.old 32 left.now }
-    requires right { AreBits builder.old 32 right.now }
+    requires left { AreBits builder.old word_width left.now }
+    requires right { AreBits builder.old word_width right.now }
     requires room { builder.old.variables + 3 < variable_bound }
-    ensures bits { IfOk result (AreBits builder.new 32) }
+    ensures bits { IfOk result (AreBits builder.new word_width) }
     ensures made { IfOk result (λ r. Makes builder.old builder.new 3 69
         (λ a. word a r ≡ truth (is_true (word a left.now) || is_true (word a right.now)))) }
 {
@@ -191,10 +191,10 @@ fn left_shift_word(
     left: &[Lit],
     right: &[Lit],
 ) -> Result<Bits, Memory>
-    requires left { AreBits builder.old 32 left.now }
-    requires right { AreBits builder.old 32 right.now }
+    requires left { AreBits builder.old word_width left.now }
+    requires right { AreBits builder.old word_width right.now }
     requires room { builder.old.variables + 160 < variable_bound }
-    ensures bits { IfOk result (AreBits builder.new 32) }
+    ensures bits { IfOk result (AreBits builder.new word_width) }
     ensures made { IfOk result (λ r. Makes builder.old builder.new 160 960
         (λ a. word a r ≡ binary_value Binary.Shl (word a left.now) (word a right.now) t)) }
 {
@@ -206,7 +206,7 @@ fn left_shift_word(
 
 /// What fills the places that come free above in a shift to the right: the top bit of a word with sign.
 fn fill_of(builder: &Builder, t: IntType, bits: &[Lit]) -> Lit
-    requires bits { AreBits builder.now 32 bits.now }
+    requires bits { AreBits builder.now word_width bits.now }
     ensures lit { IsLit builder.now result }
     ensures says { (a : Assignment) → Satisfies a builder.now.clauses → value a result ≡ is_negative t (word a bits.now) }
 {
@@ -224,10 +224,10 @@ fn right_shift_word(
     left: &[Lit],
     right: &[Lit],
 ) -> Result<Bits, Memory>
-    requires left { AreBits builder.old 32 left.now }
-    requires right { AreBits builder.old 32 right.now }
+    requires left { AreBits builder.old word_width left.now }
+    requires right { AreBits builder.old word_width right.now }
     requires room { builder.old.variables + 160 < variable_bound }
-    ensures bits { IfOk result (AreBits builder.new 32) }
+    ensures bits { IfOk result (AreBits builder.new word_width) }
     ensures made { IfOk result (λ r. Makes builder.old builder.new 160 960
         (λ a. word a r ≡ binary_value Binary.Shr (word a left.now) (word a right.now) t)) }
 {
@@ -246,10 +246,10 @@ fn binary_word(
     left: &[Lit],
     right: &[Lit],
 ) -> Result<Bits, Memory>
-    requires left { AreBits builder.old 32 left.now }
-    requires right { AreBits builder.old 32 right.now }
+    requires left { AreBits builder.old word_width left.now }
+    requires right { AreBits builder.old word_width right.now }
     requires room { builder.old.variables + binary_variables op < variable_bound }
-    ensures bits { IfOk result (AreBits builder.new 32) }
+    ensures bits { IfOk result (AreBits builder.new word_width) }
     ensures made { IfOk result (λ r. Makes builder.old builder.new (binary_variables op) (binary_clauses op) (λ a. word a r ≡ binary_value op (word a left.now) (word a right.now) t)) }
 {
     match op {
