@@ -1,6 +1,6 @@
 -- Facts on lists that the library lacks: searches for an item that meets a fact, and for one that does not.
-use Rattle.std.proofs.Common.{◌≡◌, ℕ, ◌+◌, ◌<◌, ◌≤◌, List, length, get_or, subst, sym, ◌∙◌, arith, below_more}
-use Rattle.std.specs.List.{All, Any}
+use Rattle.std.proofs.Common.{◌≡◌, ℕ, ◌+◌, ◌<◌, ◌≤◌, List, [], ◌∷◌, length, get_or, subst, sym, refl, ◌∙◌, arith, below_more}
+use Rattle.std.specs.List.{All, Any, Contains}
 use Rattle.std.proofs.lemmas.List.{get_or_default}
 
 -- no item before this place meets the fact
@@ -38,3 +38,11 @@ all_more {A} P xs i d before lt here = record {
 -- every item is before the end
 pub all_all : {A : Type 0} (P : A → Type 0) (xs : List A) (i : ℕ) → AllBefore P xs i → length xs ≤ i → All P xs
 all_all P xs i before le k x lt = before.all k (omega arith) x
+
+-- the first item is contained
+pub head_contained : {A : Type 0} (x : A) (rest : List A) → Contains (x ∷ rest) x
+head_contained x rest = (0, omega arith, refl)
+
+-- an empty list contains nothing
+pub none_contained : {A : Type 0} (x : A) → Contains [] x → ⊥
+none_contained x (k, below, at) = absurd (omega (arith, below))
