@@ -3,6 +3,8 @@
 #![tactic(auto)]
 
 #[cfg(test)]
+mod flat;
+#[cfg(test)]
 mod formula;
 #[cfg(test)]
 mod gates;

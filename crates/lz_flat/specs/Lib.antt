@@ -6,4 +6,3 @@ pub mod WellFormed
 pub mod Lengths
 pub mod Steps
 pub mod Weight
-pub mod Example

@@ -16,6 +16,3 @@ pub use program::{
 };
 pub use step::{Stepped, flat_step};
 pub use straight::straight_run;
-
-#[cfg(test)]
-mod tests;

@@ -14,6 +14,3 @@ mod word;
 
 pub use error::LexError;
 pub use lexer::lex;
-
-#[cfg(test)]
-mod tests;

@@ -13,6 +13,3 @@ pub use laws::{
 };
 pub use schedule::{Schedule, Step, rounds};
 pub use thread_state::ThreadState;
-
-#[cfg(test)]
-mod tests;

@@ -9,6 +9,3 @@ mod program;
 
 pub use lz_expr::ParseError;
 pub use program::{one_program, parse};
-
-#[cfg(test)]
-mod tests;

@@ -18,6 +18,3 @@ pub use laws::{one_answer, one_schedule, printed_is_read};
 pub use print::print_schedule;
 pub use read::read_schedule;
 pub use replaying::replay;
-
-#[cfg(test)]
-mod tests;

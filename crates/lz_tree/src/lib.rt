@@ -20,6 +20,3 @@ pub use scoped::{
 };
 pub use statement::{Declarator, Declarators, First, Objects, Stmt, Stmts};
 pub use token::{Form, Keyword, Names, Punct, Token, TokenKind, TokenList, Tokens};
-
-#[cfg(test)]
-mod tests;

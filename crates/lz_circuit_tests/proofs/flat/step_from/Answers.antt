@@ -1,11 +1,11 @@
 use Rattle.std.proofs.Common.{◌≡◌, ◌≤◌, ℕ, zero, suc, drop, refl, sym, subst, arith}
 use Rattle.lz_flat.specs.Programs.{FlatProgram, code_of}
 use Rattle.lz_flat.specs.WellFormed.{BeginsVisible}
-use Rattle.lz_flat.specs.Example.{example}
-use Rattle.lz_flat.proofs.tests.step_from.Goals as goal
+use Rattle.lz_circuit_tests.specs.FlatExample.{waiting}
+use Rattle.lz_circuit_tests.proofs.flat.step_from.Goals as goal
 
--- each place of the example but the second is visible or the end
-stands : (place : ℕ) → (place ≡ 1 → ⊥) → place ≤ 3 → BeginsVisible (drop place (code_of example 0))
+-- each place of the program but the second is visible or the end
+stands : (place : ℕ) → (place ≡ 1 → ⊥) → place ≤ 3 → BeginsVisible (drop place (code_of waiting 0))
 stands zero other within = refl
 stands (suc zero) other within = absurd (other refl)
 stands (suc (suc zero)) other within = refl

@@ -1,5 +1,7 @@
-use super::*;
+//! Programs and refusals of lz_parse, from tokens that stand for letters.
+
 use lz_base::{Name, Sequence};
+use lz_parse::{ParseError, parse};
 use lz_tree::{External, Form, Keyword, Lead, Program, Punct, Token, TokenKind, Tokens};
 use std::alloc::Global;
 use std::test::*;

@@ -2,7 +2,7 @@ use Rattle.std.proofs.Common.{arith, ap, map, length}
 use Rattle.std.proofs.lemmas.List.{length-map}
 use Rattle.lz_model.specs.declared.schedule.Step.{Step}
 use Rattle.lz_model.proofs.RoundsLemmas.{descents-le}
-use Rattle.lz_model.proofs.tests.rounds_are.Goals as goal
+use Rattle.lz_state_tests.proofs.rounds.rounds_are.Goals as goal
 
 pub rounds-requires : goal.rounds-requires
 rounds-requires c =

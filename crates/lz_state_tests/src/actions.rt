@@ -1,9 +1,11 @@
+//! First actions on the shared state, by lz_store.
+
 ghost use Rattle.std.specs.Prelude.{IsTrue};
 ghost use Rattle.lz_store.specs.Answers.{IsWithin};
 
-use super::*;
 use lz_base::{BreakKind, Memory, Values};
 use lz_model::Action;
+use lz_store::{Acted, Store};
 use lz_tree::{Scoped, ScopedFunctions};
 use std::alloc::Global;
 use std::test::Fail;

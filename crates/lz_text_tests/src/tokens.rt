@@ -1,4 +1,6 @@
-use super::*;
+//! Tokens and refusals of lz_lex.
+
+use lz_lex::{LexError, lex};
 use lz_tree::{Form, Punct, Token, TokenKind};
 use std::alloc::Global;
 use std::process::Abort;

@@ -1,4 +1,6 @@
-use super::*;
+//! Rounds of schedules, by lz_model.
+
+use lz_model::{Schedule, Step, rounds};
 use std::test::Fail;
 
 /// Rounds of schedules over three threads, counted by hand.

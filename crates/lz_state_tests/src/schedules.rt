@@ -1,5 +1,7 @@
-use super::*;
+//! Texts of schedules, by lz_replay.
+
 use lz_model::{Schedule, Step};
+use lz_replay::{ScheduleError, print_schedule, read_schedule};
 use std::test::Fail;
 
 /// What is read of a text: the steps, or the first line without a reading.

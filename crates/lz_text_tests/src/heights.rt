@@ -1,5 +1,7 @@
-use super::*;
+//! The height of a tree of lz_tree.
+
 use lz_base::Sequence;
+use lz_tree::{Expr, External, Externals, Program, Stmt, TypeName, height};
 use std::test::Fail;
 
 /// `int main(void) return NULL;`: the `return` is a node over the `NULL`, and the function is none.

@@ -1,10 +1,15 @@
+//! Steps and copies of flat programs, by lz_flat.
+
 ghost use Rattle.std.specs.Prelude.{◌≡◌, IfOk, [], ◌∷◌, length, map, drop, All};
 ghost use Rattle.lz_flat.specs.Programs.{expression, instruction, marked, flat_program, code_of};
 ghost use Rattle.lz_flat.specs.WellFormed.{IsWord, BeginsVisible};
-ghost use Rattle.lz_flat.specs.Example.{example};
+ghost use Rattle.lz_circuit_tests.specs.FlatExample.{waiting};
 
-use super::*;
 use lz_base::{Binary, BreakKind, IntType, Memory, Sequence};
+use lz_flat::{
+    Flat, FlatExpr, FlatThread, FlatThreads, Halt, Instr, Marked, Spot, Stepped, binary_expr,
+    choose_expr, copy_expr, copy_instr, copy_spot, flat_step,
+};
 use std::alloc::Global;
 use std::test::Fail;
 
@@ -15,7 +20,7 @@ fn marked_so(instr: Instr, visible: bool) -> Marked
 }
 
 fn one_thread(alloc: Global) -> Result<Flat, Memory>
-    ensures { IfOk result (λ flat. flat_program flat ≡ example) }
+    ensures { IfOk result (λ flat. flat_program flat ≡ waiting) }
 {
     let to = Spot {
         first: 0,
@@ -47,7 +52,7 @@ fn one_thread(alloc: Global) -> Result<Flat, Memory>
 
 /// A step from a place where an instruction is visible or the code ends.
 fn step_from(flat: &Flat, place: u32, word: u64) -> Option<(Result<Stepped, Halt>, u32, u64)>
-    requires { flat_program flat.now ≡ example }
+    requires { flat_program flat.now ≡ waiting }
 {
     if word > 1 || place == 1 || place > 3 {
         return None;

@@ -8,8 +8,8 @@ abbrev pub first_word : Location
 first_word = record { first = 0; len = 1; index = constant 0 }
 
 -- the program
-abbrev pub example : FlatProgram
-example = record {
+abbrev pub waiting : FlatProgram
+waiting = record {
   threads = (record { instr = assumes (word 0); visible = true }
       ∷ record { instr = sets first_word (constant 0); visible = false }
       ∷ record { instr = checks (word 0) Assert 7; visible = true } ∷ []) ∷ [];
