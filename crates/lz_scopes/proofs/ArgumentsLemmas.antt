@@ -1,5 +1,6 @@
 -- Walking arguments from left to right: what is wanted of the next one, and what is left.
 use Rattle.std.proofs.Common.{◌≡◌, ℕ, zero, suc, ◌+◌, ◌<◌, ◌≤◌, Bool, true, false, not, ◌||◌, ◌&&◌, Option, Some, None, List, [], ◌∷◌, length, map, drop, get_or, refl, sym, ap, ◌∙◌, arith, drop-cons, drop_of_length-le}
+use Rattle.std.proofs.Math.Bool.{not-not}
 use Rattle.lz_tree.specs.declared.expression.Expr.{Expr}
 use Rattle.lz_tree.specs.Trees.{Expressions, none, and, expression, expressions_of}
 use Rattle.lz_scopes.specs.declared.fault.Rule.{Rule}
@@ -36,10 +37,6 @@ pub count_of : (es : List Expr) → count (expressions_of (map expression es)) �
 count_of [] = refl
 count_of (e ∷ rest) = ap suc (count_of rest)
 
-not_not : (b : Bool) → not (not b) ≡ b
-not_not true = refl
-not_not false = refl
-
 -- a call that breaks a rule early is wrong
 pub wrong_early : {rule : Rule} (r : Option Rule) (early late : List Rule) → r ≡ Some rule → rule_list r ≡ early
     → false ≡ (is_none_of early && is_none_of late)
@@ -49,7 +46,7 @@ wrong_early (Some other) early late some is = rw (sym is) refl
 -- and otherwise one that breaks a rule late
 pub wrong_late : (r : Option Rule) (early late : List Rule) (wrong : Bool) → r ≡ None → rule_list r ≡ early
     → wrong ≡ not (is_none_of late) → not wrong ≡ (is_none_of early && is_none_of late)
-wrong_late None early late wrong nothing is found = rw (sym is, found) (not_not (is_none_of late))
+wrong_late None early late wrong nothing is found = rw (sym is, found) (not-not (is_none_of late))
 wrong_late (Some other) early late wrong nothing is found = absurd cc
 
 or_false : (a b : Bool) → a ≡ false → (a || b) ≡ b
@@ -78,10 +75,6 @@ module _ (file : File) (place : Place) (rule : Rule) (ws : List Want) (further :
   breaks_none es i over = rw (none_left es i over) refl
 
 -- ---- values of an array
-
-pub drop_nothing : {A : Type 0} (i : ℕ) → drop {A = A} i [] ≡ []
-drop_nothing zero = refl
-drop_nothing (suc i) = refl
 
 pub constant_more : (es : List Expr) (i : ℕ) (e : Expr) → i < length es → e ≡ get_or es i e → not (is_constant (constant_value (expression e))) ≡ false
     → are_constant (left_at es i) ≡ are_constant (left_at es (i + 1))
