@@ -1,7 +1,7 @@
 -- One turn of a step of a thread, its end, and the instructions that are passed over.
 use Rattle.std.proofs.Common.{◌≡◌, ℕ, zero, suc, ◌+◌, ◌-◌, ◌≤◌, ◌<◌, Bool, true, false, cond, List, [], ◌∷◌, length, map, drop, get_or, eqb, slice_index_or, All, Ok, Err, refl, sym, ◌∙◌, ap, subst, arith}
 use Rattle.std.specs.List.{AllByRecursion}
-use Rattle.std.proofs.lemmas.List.{drop_more, drop_all, drop-map}
+use Rattle.std.proofs.lemmas.List.{drop_more, drop_all, drop-drop, drop-map}
 use Rattle.lz_base.specs.declared.word.BreakKind.{BreakKind}
 use Rattle.lz_flat.specs.declared.perform.Halt.{Halt}
 use Rattle.lz_flat.specs.declared.perform.Halt.TheVariants as halts
@@ -29,17 +29,6 @@ count_skip input part l zero memory = ap (λ (n : ℕ). onward_count input n par
 count_skip input [] l (suc over) memory = refl
 count_skip input (first ∷ rest) l (suc over) memory =
     count_skip input rest (suc l) over memory ∙ ap (λ (n : ℕ). onward_count input n (drop over rest) 0 memory) (let z : suc l + over ≡ l + suc over = omega arith in z)
-
--- nothing is left of an empty list
-drop_none : {A : Type 0} (n : ℕ) → drop {A = A} n [] ≡ []
-drop_none zero = refl
-drop_none (suc n) = refl
-
--- leaving out some and then some more is leaving out both
-drop_twice : {A : Type 0} (a b : ℕ) (xs : List A) → drop b (drop a xs) ≡ drop (a + b) xs
-drop_twice zero b xs = ap (λ (n : ℕ). drop n xs) (let z : b ≡ 0 + b = omega arith in z)
-drop_twice (suc a) b [] = drop_none b ∙ sym (drop_none (suc a + b))
-drop_twice (suc a) b (x ∷ xs) = drop_twice a b xs ∙ ap (λ (n : ℕ). drop n (x ∷ xs)) (let z : suc (a + b) ≡ suc a + b = omega arith in z)
 
 -- ---- what well marked code says of one instruction
 
@@ -150,7 +139,7 @@ more_at code at next lt e = drop_more code at next lt ∙ ap (λ (x : Marked). x
 -- what is left behind the instructions passed over, as definitions read it
 behind_drop : (code : List Marked) (at over : ℕ) → drop over (map marked (drop (at + 1) code)) ≡ map marked (drop (at + (1 + over)) code)
 behind_drop code at over =
-    drop-map marked over (drop (at + 1) code) ∙ ap (map marked) (drop_twice (at + 1) over code ∙ ap (λ (n : ℕ). drop n code) (let z : at + 1 + over ≡ at + (1 + over) = omega arith in z))
+    drop-map marked over (drop (at + 1) code) ∙ ap (map marked) (drop-drop over (at + 1) code ∙ ap (λ (n : ℕ). drop n code) (let z : at + 1 + over ≡ at + (1 + over) = omega arith in z))
 
 -- a turn of the loop keeps what is left
 pub left_moves : (code : List Marked) (input : ℕ → ℕ) (from : ℕ) (start : List ℕ) (at used : ℕ) (memory after : List ℕ) (next : Marked) (over n : ℕ) → LeftFrom code input from start at used memory
