@@ -39,11 +39,8 @@ texts-insert name words words' e =
     by true = refl
     by false = map_push (λ (w : Bor (List ℕ)). w.now) words name
 
-same_bytes : (x : List ℕ) → bytes_eq x x ≡ true
-same_bytes x = (bytes_eq-Decides x x).1 refl
-
 number_new : (name : Bor (List ℕ)) (words : List (Bor (List ℕ))) → position_or_len (is_word name) words ≡ number_in (texts words ++ name.now ∷ []) name.now
-number_new name [] = sym (cond-true (bytes_eq name.now name.now) 0 (0 + 1) (same_bytes name.now))
+number_new name [] = sym (cond-true (bytes_eq name.now name.now) 0 (0 + 1) ((bytes_eq-Decides name.now name.now).1 refl))
 number_new name (w ∷ ws) = by (bytes_eq name.now w.now) (number_new name ws)
   where
     by : (t : Bool) → position_or_len (is_word name) ws ≡ number_in (texts ws ++ name.now ∷ []) name.now
