@@ -17,12 +17,10 @@ use Rattle.lz_expr.specs.Reading.{Reader, and_then, ◌>>=◌, pure, shows}
 use Rattle.lz_expr.specs.Grammar.{mark, is_object, assigned, chosen, conditional, value_of, assignment}
 use Rattle.lz_expr.proofs.RowsLemmas.{Row, made, along, row_last, row_token, row_part, heads_token, begins_token, lined_text, row_lined}
 use Rattle.lz_expr.proofs.TailLemmas.{Extended, row_tail}
+use Rattle.lz_expr.proofs.LevelsLemmas.{tight_or}
 use Rattle.lz_expr.proofs.TokensLemmas.{the_mark, the_mark_shows, token_of, mark_is, mark_shows, is_mark_is, shows_some, some_shows, line_leads}
 use Rattle.lz_expr.proofs.GoesLemmas.{below, goes, choose_goes, assign_goes, class_goes, Flat, is_flat, flat_of, goes_quiet, choose_quiet, colon_stops}
 use Rattle.lz_expr.proofs.ExpressionsLemmas.{tall, level_small, loose_small, some_text}
-
-up_to : (n m : ℕ) → n ≤ suc m → (n ≤ m) ⊎ (n ≡ suc m)
-up_to n m h = grind arith
 
 -- `?` is no operator, bracket, parenthesis or step
 question_none : is_flat (kinds.Punct marks.Question) ≡ false
@@ -169,7 +167,7 @@ module _ (h : ℕ) (inner : ℕ → Reader Token Expression) (rows : 0 < h → (
       (λ p. p.1) (λ p. nat_lt (expression_height p.1) (suc h)) (is_mark marks.Question) chosen_text (chosen inner h) (λ p. choose_goes h) (λ p q. chosen_row (room p.1 q) p) (InExpression (suc h) 11) (choose_goes h)
       (λ p u m. record { low = m.1.low; tight = (let t = m.1.tight in omega arith); fits = m.1.fits; spells = m.1.spells })
       chosen_more
-      (λ t u m. choose_split t u m.low m.fits m.spells m (up_to (level t) 10 m.tight))
+      (λ t u m. choose_split t u m.low m.fits m.spells m (tight_or (level t) 10 m.tight))
       (λ p t c v q m. let s = heads_token (mark_shown marks.Question) (yes_text p) t c v m in mark_is marks.Question c s.0 s.1)
       (λ p c q i. begins_token (mark_shown marks.Question) (yes_text p) c c.line (mark_shows marks.Question c i) (yes_row (room p.1 q) p c.line).some)
       (λ p u c m q i. goes_quiet h 10 p.1 c (question_flat c i) (question_no_operator c i))
@@ -247,7 +245,7 @@ module _ (h : ℕ) (inner : ℕ → Reader Token Expression) (rows : 0 < h → (
       (λ p. p.1) may_assign (λ c. shows (meant_by assigning_of c)) value_text (value_of inner h) (λ p. assign_goes h) value_row (InExpression (suc h) 12) (assign_goes h)
       (λ p u m. record { low = m.1.low; tight = (let t = m.1.tight in omega arith); fits = m.1.fits; spells = m.1.spells })
       (λ p t u v s q b. value_more p t u v s (and_parts (is_object p.1) (nat_lt 0 h) q).0 b)
-      (λ t u m. assign_split t u m.low m.fits m.spells m (up_to (level t) 11 m.tight))
+      (λ t u m. assign_split t u m.low m.fits m.spells m (tight_or (level t) 11 m.tight))
       (λ p t c v q m. let s = heads_token (meant_by assigning_of) (λ op. made (assigned p op) (InExpression h 12)) t c v m in some_shows (meant_by assigning_of c) s.0 s.1)
       (λ p c q i. let s = shows_some (meant_by assigning_of c) i in begins_token (meant_by assigning_of) (λ op. made (assigned p op) (InExpression h 12)) c s.0 s.1 (behind_row p q s.0).some)
       (λ p u c m q i. assign_apart p c i)

@@ -35,7 +35,8 @@ level_is n (Some x) op e = by_test (looseness x == n) refl e
 level_shows : (n : ℕ) (op : Binary) → looseness op ≡ n → of_level n (Some op) ≡ Some op
 level_shows n op e = rw (eq-eqb (looseness op) n e) refl
 
-tight_or : (a c : ℕ) → a ≤ suc c → (a ≤ c) ⊎ (a ≡ suc c)
+-- a level that is no looser than the next is no looser than this one, or is the next
+pub tight_or : (a c : ℕ) → a ≤ suc c → (a ≤ c) ⊎ (a ≡ suc c)
 tight_or a c h = grind arith
 
 -- no binary operator is a bracket, a parenthesis or a step

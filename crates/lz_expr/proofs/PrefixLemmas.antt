@@ -1,6 +1,7 @@
 -- Unary expressions are read exactly where their parts are.
 use Rattle.std.proofs.Common.{◌≡◌, ℕ, suc, ◌<◌, ◌≤◌, Bool, true, false, List, [], ◌∷◌, ◌++◌, Some, None, refl, sym, ap, subst, ◌∙◌, inl, inr, arith, nat_lt}
 use Rattle.std.specs.Prelude.{if◌then◌else◌, ◌⊎◌, ◌&&◌, ◌||◌}
+use Rattle.std.proofs.Math.Bool.{or-true}
 use Rattle.lz_tree.specs.declared.token.Token.{Token}
 use Rattle.lz_tree.specs.declared.token.TokenKind.{TokenKind}
 use Rattle.lz_tree.specs.declared.token.TokenKind.TheVariants as kinds
@@ -198,11 +199,7 @@ integer_first t (kinds.Keyword w) ks i e = word t w ks i e
 
 by_integer : (t : TypeName) (c : Token) (u : List Token) → integer_text t (c ∷ u) → (is_key keys.Void c || shows (key_meant integer_key c)) ≡ true
 unfolding key_meant
-by_integer t c u (i, s) = rw (integer_first t c.kind (kinds_of u) i s) (or_true (is_key keys.Void c))
-  where
-    or_true : (a : Bool) → (a || true) ≡ true
-    or_true true = refl
-    or_true false = refl
+by_integer t c u (i, s) = rw (integer_first t c.kind (kinds_of u) i s) (or-true (is_key keys.Void c))
 
 module _ (h : ℕ) (inner : ℕ → Reader Token Expression) (rows : 0 < h → (c : ℕ) → c ≤ 12 → Row (InExpression h c) (inner c) (class_goes (below h) c)) where
   -- ---- `++` and `--` behind an object
