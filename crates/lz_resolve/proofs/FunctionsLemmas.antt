@@ -1,6 +1,6 @@
 -- What a function with its parameters is made of; and external declarations in their order.
 use Rattle.std.proofs.Common.{◌≡◌, ℕ, ◌+◌, ◌-◌, ◌<◌, ◌≤◌, Bool, ◌&&◌, List, [], ◌∷◌, ◌++◌, length, map, drop, get_or, Option, refl, sym, ap, ◌∙◌, append_assoc, append-nil, drop_of_length-le}
-use Rattle.std.proofs.lemmas.List.{get_or_default}
+use Rattle.std.proofs.lemmas.List.{drop_more}
 use Rattle.lz_base.specs.declared.word.IntType.{IntType}
 use Rattle.lz_tree.specs.declared.expression.TypeName.{TypeName}
 use Rattle.lz_tree.specs.declared.program.External.{External}
@@ -28,12 +28,9 @@ made_function file p p1 p2 p3 gives name params body start kinds of t e1 e2 e3 s
 
 -- ---- parameters
 
-pub read_item : (ps : List Param) (i : ℕ) (d : Param) → i < length ps → drop i ps ≡ get_or ps i d ∷ drop (i + 1) ps
-read_item ps i d below = drop_item ps i (get_or ps i d) below (get_or_default ps i d (get_or ps i d) below)
-
 pub params_more : (start now now' : Place) (all ps : List Param) (i : ℕ) (d : Param) → with_params start all ≡ with_params now (drop i ps) → i < length ps
     → now' ≡ with_param now (get_or ps i d).base (get_or ps i d).name → with_params start all ≡ with_params now' (drop (i + 1) ps)
-params_more start now now' all ps i d so_far below one = so_far ∙ rw (read_item ps i d below, one) refl
+params_more start now now' all ps i d so_far below one = so_far ∙ rw (drop_more ps i d below, one) refl
 
 pub params_all : (start now : Place) (all ps : List Param) (i : ℕ) → with_params start all ≡ with_params now (drop i ps) → length ps ≤ i → now ≡ with_params start all
 params_all start now all ps i so_far over = sym (so_far ∙ rw (drop_of_length-le ps over) refl)
@@ -41,7 +38,7 @@ params_all start now all ps i so_far over = sym (so_far ∙ rw (drop_of_length-l
 pub kinds_more : (all : List IntType) (done done' : List IntType) (ps : List Param) (i : ℕ) (d : Param) → all ≡ done ++ param_kinds (drop i ps) → i < length ps
     → done' ≡ done ++ kind_of (value_type (get_or ps i d).base) ∷ [] → all ≡ done' ++ param_kinds (drop (i + 1) ps)
 kinds_more all done done' ps i d so_far below one =
-    so_far ∙ rw (read_item ps i d below, one) (sym (append_assoc done (kind_of (value_type (get_or ps i d).base) ∷ []) (param_kinds (drop (i + 1) ps))))
+    so_far ∙ rw (drop_more ps i d below, one) (sym (append_assoc done (kind_of (value_type (get_or ps i d).base) ∷ []) (param_kinds (drop (i + 1) ps))))
 
 pub kinds_all : (all done : List IntType) (ps : List Param) (i : ℕ) → all ≡ done ++ param_kinds (drop i ps) → length ps ≤ i → done ≡ all
 kinds_all all done ps i so_far over = sym (so_far ∙ rw (drop_of_length-le ps over) (append-nil done))
