@@ -13,13 +13,9 @@ use Rattle.lz_scopes.proofs.ArgumentsLemmas.{drop_item}
 use Rattle.lz_types.specs.Faults.{at, param_rules, params_faults, external_faults, externals_faults}
 use Rattle.lz_types.specs.Parts.{is_one_at}
 use Rattle.lz_base.proofs.BoolLemmas.{first_fails, first_holds}
-use Rattle.std.proofs.lemmas.List.{get_or_default}
+use Rattle.std.proofs.lemmas.List.{drop_more}
 
 -- ---- parameters
-
--- an item that is read, and those behind it
-read_item : (ps : List Param) (i : ℕ) (d : Param) → i < length ps → drop i ps ≡ get_or ps i d ∷ drop (i + 1) ps
-read_item ps i d below = drop_item ps i (get_or ps i d) below (get_or_default ps i d (get_or ps i d) below)
 
 -- What a walk of parameters has come to at a place with some of them left.
 pub record WalkedParams (file : File) (form : Bool) (start now : Place) (all left : List Param) (noted so_far : List Fault) : Type 0 where
@@ -33,7 +29,7 @@ pub params_more : (file : File) (form : Bool) (start now now' : Place) (all ps :
 unfolding params_faults
 params_more file form start now now' all ps i d noted f f' w below e1 e2 =
     let p : Param = get_or ps i d in
-    let n : drop i ps ≡ p ∷ drop (i + 1) ps = read_item ps i d below in
+    let n : drop i ps ≡ p ∷ drop (i + 1) ps = drop_more ps i d below in
     record {
       place = w.place ∙ rw (n, e1) refl;
       faults = w.faults ∙ rw (n, e2, e1, append_assoc f (at p.line (param_rules file now form p)) (params_faults file (with_param now p.base p.name) form (drop (i + 1) ps))) refl;
@@ -62,7 +58,7 @@ front base rest (other ∷ others) (suc i) = let next : suc i + 1 ≡ suc (i + 1
 
 ones_step : (ps : List Param) (others : List TypeName) (i : ℕ) (d : Param) → i < length ps
     → ones_at ps others i ≡ (is_one_at (get_or ps i d).base (slice_get others i) && ones_at ps others (i + 1))
-ones_step ps others i d below = rw (read_item ps i d below) (front (get_or ps i d).base (bases (drop (i + 1) ps)) others i)
+ones_step ps others i d below = rw (drop_more ps i d below) (front (get_or ps i d).base (bases (drop (i + 1) ps)) others i)
 
 pub ones_more : (ps : List Param) (others : List TypeName) (i : ℕ) (d : Param) → i < length ps
     → not (is_one_at (get_or ps i d).base (slice_get others i)) ≡ false → ones_at ps others i ≡ ones_at ps others (i + 1)

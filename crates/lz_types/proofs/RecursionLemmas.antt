@@ -1,7 +1,7 @@
 -- In a program that breaks no rule each call leads to a function of the file, and none comes back to its caller.
 use Rattle.std.proofs.Common.{◌≡◌, ℕ, zero, suc, ◌+◌, ◌<◌, ◌≤◌, ◌==◌, Bool, true, false, List, [], ◌∷◌, ◌++◌, length, slice_get, Option, Some, None, refl, sym, ap, ◌∙◌, subst, arith, inl, inr, if◌then◌else◌, IsTrue}
 use Rattle.std.specs.List.{Contains}
-use Rattle.std.proofs.lemmas.Bool.{cases_Bool, eqb-true}
+use Rattle.std.proofs.lemmas.Bool.{cases_Bool, eqb-true, false≢true}
 use Rattle.std.proofs.lemmas.List.{length-map}
 use Rattle.lz_tree.specs.declared.expression.TypeName.{TypeName}
 use Rattle.lz_tree.specs.declared.program.Param.{Param}
@@ -31,7 +31,7 @@ use Rattle.lz_resolve.specs.ScopedPrograms.{or_nothing, scope, scope_index, scop
 use Rattle.lz_calls.specs.Calls.{Calls, graph_of}
 use Rattle.lz_calls.specs.Facts.{IsRecursionFree}
 use Rattle.lz_calls.specs.Reaching.{Among}
-use Rattle.lz_calls.proofs.ReachingLemmas.{no_truth, calls_within, contains_among}
+use Rattle.lz_calls.proofs.ReachingLemmas.{calls_within, contains_among}
 use Rattle.lz_types.specs.Checking.{AreFaults}
 use Rattle.lz_types.specs.Faults.{at, node, target, faults, index_faults, all_faults, optional_faults, initializer_faults, declarators_faults, statement_faults, branch_faults, statements_faults, body_faults, external_faults, externals_faults, file_faults}
 use Rattle.lz_calls.proofs.FactsLemmas.{row_at}
@@ -382,5 +382,5 @@ recursion_free unit a =
       forward = λ f g c reaches.
           let leads : Leads (file_with unit a.facts) f g = call_of unit a.facts f g (sym a.listed) c in
           let back_again : IsTrue (row_has (slice_get a.facts.returning f) g) = (a.right.returning f g c).1 reaches in
-          absurd (no_truth (sym leads.ahead ∙ back_again));
+          absurd (false≢true (sym leads.ahead ∙ back_again));
     }
