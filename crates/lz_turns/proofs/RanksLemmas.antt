@@ -1,6 +1,7 @@
 -- Each turn of a node brings it nearer to its last stage.
-use Rattle.std.proofs.Common.{◌≡◌, ℕ, zero, suc, ◌+◌, ◌*◌, ◌-◌, ◌<◌, max, Bool, true, false, List, [], ◌∷◌, ◌++◌, length, nat_lt, slice_index, Option, Some, None, refl, ap, subst, arith, if◌then◌else◌}
+use Rattle.std.proofs.Common.{◌≡◌, ℕ, zero, suc, ◌+◌, ◌*◌, ◌-◌, ◌<◌, max, Bool, true, false, List, [], ◌∷◌, ◌++◌, length, nat_lt, slice_index, Option, Some, None, refl, subst, arith, if◌then◌else◌}
 use Rattle.std.specs.List.{Contains}
+use Rattle.std.proofs.lemmas.List.{length_push}
 use Rattle.std.proofs.lemmas.List.Elements.{Contains-push}
 use Rattle.lz_base.specs.Words.{is_true, truth, converted}
 use Rattle.lz_base.specs.declared.word.BreakKind.{BreakKind}
@@ -19,10 +20,6 @@ use Rattle.lz_turns.specs.Stages.{Stage, start, given, settled, indexed, ready, 
 use Rattle.lz_turns.specs.Moves.{Called, function_called, known_called, not_called, called, argument_at, arguments_of, check_move, assume_move, need_move, bound_move, index_move, divide_move, read_move, write_move, element_at, target_begins, call_begins, begin_move, indexed_move, ready_move, old_move, valued_move, writing_move, operand_move, both_move, either_move, left_move, chosen_move, first_move, right_move, second_move, branch_move, calling_so, calling_move, argument_move, handed_index, handed_target, object_so, passing_one, passing_so, passing_move, handed_one, handed_so, handed_move, known_move, value_so, arguing_so, arguing_move, argued_so, argued_move, woken_move, made_move, turn_of}
 use Rattle.lz_turns.specs.Nears.{Falls}
 use Rattle.lz_turns.specs.Ranks.{count, rank_of, rank}
-
-longer : (values : List ℕ) (v : ℕ) → length (values ++ v ∷ []) ≡ suc (length values)
-longer [] v = refl
-longer (x ∷ xs) v = ap suc (longer xs v)
 
 some_below : (args : ScopedExpressions) (k : ℕ) (a : ScopedExpression) → argument_at args k ≡ Some a → k < count args
 some_below none k a e = absurd cc
@@ -326,7 +323,7 @@ module _ (fs : List ℕ) (args : ScopedExpressions) where
   callings_fall not_called values own = tt
 
   argument_falls : (d : Called) (values : List ℕ) (v : ℕ) → Falls fs (count args) (19 + 2 * max (count args - length values) 1) (argument_move d values v)
-  argument_falls (function_called line function) values v = let e = longer values v in omega (arith, e)
+  argument_falls (function_called line function) values v = let e = length_push values v in omega (arith, e)
   argument_falls (known_called line name) values v = tt
   argument_falls not_called values v = tt
 
