@@ -1,6 +1,7 @@
 pub mod CommandLine
 pub mod Limits
 pub mod Report
+pub mod Printable
 pub mod Source
 pub mod Admission
 pub mod Admit

@@ -1,5 +1,5 @@
 -- Trusted: the report of an ending, to the byte, its status and its evidence.
-use Rattle.std.specs.Prelude.{ℕ, ◌<◌, ◌^◌, List, ◌++◌, codes, ⊤}
+use Rattle.std.specs.Prelude.{ℕ, List, ◌++◌, codes}
 use Rattle.std.specs.List.{flat_map}
 use Rattle.std.specs.Fmt.{decimal}
 use Rattle.lz_base.specs.declared.word.BreakKind.{BreakKind}
@@ -106,22 +106,3 @@ evidence_of ProofTooLong = Nothing
 evidence_of (BadSchedule line) = Nothing
 evidence_of (ReadFault name) = Nothing
 evidence_of OutOfMemory = Nothing
-
--- the numbers of the report fit their types
-abbrev pub IsPrintable : Ending → Type 0
-IsPrintable (Failed kind line schedule) = rounds_of (threads_of schedule) < 2 ^ 32
-IsPrintable (Successful unwind rounds formula log) = ⊤
-IsPrintable (NotAToken line place) = ⊤
-IsPrintable (NotAProgram line token) = ⊤
-IsPrintable (Faulty line rule) = ⊤
-IsPrintable (ManySlots slots) = ⊤
-IsPrintable (HighCost cost) = ⊤
-IsPrintable (Recheck answer) = ⊤
-IsPrintable (Replay answer) = ⊤
-IsPrintable (NotBuilt line) = ⊤
-IsPrintable FileTooLong = ⊤
-IsPrintable ScheduleTooLong = ⊤
-IsPrintable ProofTooLong = ⊤
-IsPrintable (BadSchedule line) = ⊤
-IsPrintable (ReadFault name) = ⊤
-IsPrintable OutOfMemory = ⊤

@@ -2,7 +2,8 @@
 
 ghost use Rattle.std.specs.Prelude.{◌≡◌, ◌≤◌, ℕ, List, None, length, IfOk};
 ghost use Rattle.lz_cli.specs.CommandLine.{IsCheckName, IsNamed, IsProofName, IsReplayName};
-ghost use Rattle.lz_cli.specs.Report.{report, status_of, IsPrintable};
+ghost use Rattle.lz_cli.specs.Report.{report, status_of};
+ghost use Rattle.lz_cli.specs.Printable.{IsPrintable};
 ghost use Rattle.lz_base.specs.Limits.{file_limit};
 ghost use Rattle.lz_cli.specs.Limits.{Bounds, checking, replaying};
 ghost use Rattle.lz_cli.specs.Ending.{Call, call_of, IsRunSource, IsVerdict, IsLawful};

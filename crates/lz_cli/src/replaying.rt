@@ -7,7 +7,7 @@ ghost use Rattle.lz_resolve.specs.ScopedPrograms.{scoped_of};
 ghost use Rattle.lz_model.specs.ScheduleText.{IsScheduleText};
 ghost use Rattle.lz_cli.specs.Limits.{schedule_limit};
 ghost use Rattle.lz_cli.specs.Ending.{Call, IsRunBy, IsLawful};
-ghost use Rattle.lz_cli.specs.Report.{IsPrintable};
+ghost use Rattle.lz_cli.specs.Printable.{IsPrintable};
 
 use crate::ending::Ending;
 use lz_base::Memory;

@@ -7,7 +7,8 @@ ghost use Rattle.lz_model.specs.Rounds.{rounds_of, threads_of};
 ghost use Rattle.lz_cli.specs.Recheck as recheck;
 ghost use Rattle.lz_cli.specs.Recheck.{recheck_line};
 ghost use Rattle.lz_cli.specs.Report as spec;
-ghost use Rattle.lz_cli.specs.Report.{report, success_line, kind_word, step_line, replay_line, status_of, IsPrintable};
+ghost use Rattle.lz_cli.specs.Report.{report, success_line, kind_word, step_line, replay_line, status_of};
+ghost use Rattle.lz_cli.specs.Printable.{IsPrintable};
 
 use crate::ending::Ending;
 use crate::limits::{COST_LIMIT, SCHEDULE_LIMIT, SLOT_LIMIT};
