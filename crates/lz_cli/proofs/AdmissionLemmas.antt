@@ -1,5 +1,6 @@
 -- What is said of a program's rules, slots, cost and first choice excludes every other case.
 use Rattle.std.proofs.Common.{◌≡◌, ℕ, ◌<◌, ◌≤◌, List, [], ◌∷◌, Some, None, sym, ◌∙◌, ap, subst, arith}
+use Rattle.std.proofs.lemmas.Option.{same_Some}
 use Rattle.lz_tree.specs.Trees.{TranslationUnit}
 use Rattle.lz_tree.specs.ScopedTrees.{ScopedProgram}
 use Rattle.lz_scopes.specs.declared.fault.Fault.{Fault}
@@ -78,13 +79,10 @@ same_program one {bounds} {bytes} a b = ap scoped_of (same_accepted one bytes a.
 none_some : {P : Type 0} (line : ℕ) → None ≡ Some line → P
 none_some line e = absurd cc
 
-inside : (line other : ℕ) → Some line ≡ Some other → line ≡ other
-inside line other e = cc
-
 -- no program has a choice and none
 pub no_choice_chosen : {P : Type 0} {p q : ScopedProgram} {line : ℕ} → p ≡ q → first_choice p ≡ None → first_choice q ≡ Some line → P
 no_choice_chosen {P} {p} {q} {line} same none some = none_some line (sym none ∙ ap first_choice same ∙ some)
 
 -- one choice is the first
 pub one_choice : {p q : ScopedProgram} {line other : ℕ} → p ≡ q → first_choice p ≡ Some line → first_choice q ≡ Some other → line ≡ other
-one_choice {p} {q} {line} {other} same a b = inside line other (sym a ∙ ap first_choice same ∙ b)
+one_choice {p} {q} {line} {other} same a b = same_Some line other (sym a ∙ ap first_choice same ∙ b)

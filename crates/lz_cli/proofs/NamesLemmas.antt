@@ -1,5 +1,7 @@
 -- The words of a call name files of one kind, and each kind in one way.
-use Rattle.std.proofs.Common.{◌≡◌, ℕ, ◌==◌, true, false, ◌⊎◌, inl, inr, List, [], ◌∷◌, length, codes, Some, sym, ◌∙◌, ap, arith}
+use Rattle.std.proofs.Common.{◌≡◌, ℕ, ◌==◌, ◌⊎◌, inl, inr, List, [], ◌∷◌, length, codes, sym, ◌∙◌, ap, arith}
+use Rattle.std.proofs.lemmas.Bool.{false≢true}
+use Rattle.std.proofs.lemmas.Option.{same_Some}
 use Rattle.lz_cli.specs.CommandLine.{turns_of, IsFileName, IsProofName, IsBoundedName, IsCheckName, IsPlainReplay, IsBoundedReplay, IsReplayName, IsNamed}
 
 head_of : List (List ℕ) → List ℕ
@@ -13,9 +15,6 @@ tail_of (first ∷ rest) = rest
 lengths : (words one two : List (List ℕ)) → words ≡ one → words ≡ two → length one ≡ length two
 lengths words one two p q = ap (λ (w : List (List ℕ)). length w) (sym p ∙ q)
 
-one_number : (a b : ℕ) → Some a ≡ Some b → a ≡ b
-one_number a b e = cc
-
 -- ---- files whose program is decided
 
 same_name : (words : List (List ℕ)) (a b : List ℕ) → IsFileName words a → IsFileName words b → a ≡ b
@@ -27,7 +26,7 @@ unfolding head_of tail_of
 same_bounded words t n a b p q =
     let e = sym p.1 ∙ q.1 in
     let word : p.0 ≡ q.0 = ap (λ (w : List (List ℕ)). head_of (tail_of w)) e in
-    (one_number t n (sym p.2 ∙ ap turns_of word ∙ q.2), ap (λ (w : List (List ℕ)). head_of (tail_of (tail_of w))) e)
+    (same_Some t n (sym p.2 ∙ ap turns_of word ∙ q.2), ap (λ (w : List (List ℕ)). head_of (tail_of (tail_of w))) e)
 
 pub same_check : (words : List (List ℕ)) (t n : ℕ) (a b : List ℕ) → IsCheckName words t a → IsCheckName words n b → (t ≡ n) × (a ≡ b)
 same_check words t n a b (inl p) (inl q) = (p.1 ∙ sym q.1, same_name words a b p.0 q.0)
@@ -42,11 +41,8 @@ unfolding head_of tail_of
 same_proof words a b p q = ap (λ (w : List (List ℕ)). head_of (tail_of (tail_of w))) (sym p.0 ∙ q.0)
 
 -- the first word tells them apart
-no_truth : false ≡ true → ⊥
-no_truth e = absurd cc
-
 words_apart : codes "--unwind" ≡ codes "--mode" → ⊥
-words_apart e = no_truth (ap (λ (w : List ℕ). length w == 6) e)
+words_apart e = false≢true (ap (λ (w : List ℕ). length w == 6) e)
 
 pub check_proof : (words : List (List ℕ)) (t : ℕ) (a b : List ℕ) → IsCheckName words t a → IsProofName words b → ⊥
 unfolding head_of
@@ -66,7 +62,7 @@ unfolding head_of tail_of
 same_bounded_replay words t n s r a b p q =
     let e = sym p.1 ∙ q.1 in
     let word : p.0 ≡ q.0 = ap (λ (w : List (List ℕ)). head_of (tail_of (tail_of (tail_of w)))) e in (
-      one_number t n (sym p.2 ∙ ap turns_of word ∙ q.2),
+      same_Some t n (sym p.2 ∙ ap turns_of word ∙ q.2),
       ap (λ (w : List (List ℕ)). head_of (tail_of (tail_of (tail_of (tail_of (tail_of w)))))) e,
       ap (λ (w : List (List ℕ)). head_of (tail_of (tail_of (tail_of (tail_of (tail_of (tail_of w))))))) e,
     )
