@@ -2,6 +2,7 @@
 use Rattle.std.proofs.Common.{◌≡◌, ℕ, zero, suc, ◌+◌, ◌*◌, ◌<◌, ◌≤◌, Bool, true, false, not, ◌||◌, eqb, List, [], ◌∷◌, ◌++◌, length, get_or, take, refl, sym, ◌∙◌, ap, arith}
 use Rattle.std.specs.List.{All}
 use Rattle.std.proofs.lemmas.List.{append-nil, append_assoc, length-append, take_more, take_all}
+use Rattle.std.proofs.lemmas.Bool.{or_parts}
 use Rattle.std.proofs.lemmas.Bool.Decides.{nat_tests}
 use Rattle.lz_cnf.specs.declared.clause.Lit.{Lit}
 use Rattle.lz_cnf.specs.Models.{variable_of, negated}
@@ -38,18 +39,13 @@ unfolding Satisfies clause_value
 rows_true a t [] e = tt
 rows_true a t (x ∷ xs) e = (rw value-negated (row_true (value a x) (value a t) e), rows_true a t xs e)
 
--- where one of two is false, both are
-or_false : (x y : Bool) → false ≡ (x || y) → (x ≡ false) × (false ≡ y)
-or_false true y e = absurd cc
-or_false false y e = (refl, e)
-
 -- where each bit is false, each row is true
 rows_false : (a : Assignment) (t : Lit) (xs : List Lit) → false ≡ clause_value a xs → Satisfies a (rows t xs)
 unfolding Satisfies clause_value
 rows_false a t [] e = tt
 rows_false a t (x ∷ xs) e =
-    let f = or_false (value a x) (clause_value a xs) e in
-    (rw (value-negated, f.0) refl, rows_false a t xs f.1)
+    let f = or_parts (value a x) (clause_value a xs) (sym e) in
+    (rw (value-negated, f.0) refl, rows_false a t xs (sym f.1))
 
 -- a true row of a true bit makes the test true
 only_true : (x t : Bool) → (not x || (t || false)) ≡ true → x ≡ true → t ≡ true

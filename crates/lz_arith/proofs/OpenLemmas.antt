@@ -1,5 +1,6 @@
 -- The literals that a truth test depends on.
 use Rattle.std.proofs.Common.{◌≡◌, ℕ, zero, suc, ◌+◌, ◌<◌, ◌≤◌, Bool, true, false, not, ◌||◌, cond, eqb, List, [], ◌∷◌, ◌++◌, length, get_or, take, refl, sym, ◌∙◌, ap, subst, arith}
+use Rattle.std.proofs.Math.Bool.{or-false, or-true, or_assoc}
 use Rattle.std.proofs.lemmas.Bool.{eqb-true}
 use Rattle.std.proofs.lemmas.List.{take_more, take_all, length_push, get_or_push, get_or_append_left}
 use Rattle.std.proofs.lemmas.List.Elements.{All-push}
@@ -12,33 +13,18 @@ use Rattle.lz_arith.specs.Bits.{word, copies}
 use Rattle.lz_arith.specs.Open.{KeepsTest}
 use Rattle.lz_arith.proofs.NonzeroLemmas.{clause_word}
 
--- one of three is true, grouped either way
-or_assoc : (x y z : Bool) → (x || (y || z)) ≡ ((x || y) || z)
-or_assoc true y z = refl
-or_assoc false y z = refl
-
--- false takes nothing away
-or_none : (x : Bool) → (x || false) ≡ x
-or_none true = refl
-or_none false = refl
-
 -- one more literal
 clause_push : (a : Assignment) (xs : List Lit) (x : Lit) → clause_value a (xs ++ x ∷ []) ≡ (clause_value a xs || value a x)
 unfolding clause_value
-clause_push a [] x = or_none (value a x)
-clause_push a (y ∷ ys) x = ap (λ (b : Bool). value a y || b) (clause_push a ys x) ∙ or_assoc (value a y) (clause_value a ys) (value a x)
-
--- true makes all true
-or_true : (x : Bool) → (x || true) ≡ true
-or_true true = refl
-or_true false = refl
+clause_push a [] x = or-false (value a x)
+clause_push a (y ∷ ys) x = ap (λ (b : Bool). value a y || b) (clause_push a ys x) ∙ sym (or_assoc (value a y) (clause_value a ys) (value a x))
 
 -- a true literal makes the clause true
 clause_holds : (a : Assignment) (xs : List Lit) (k : ℕ) (d : Lit) → k < length xs → value a (get_or xs k d) ≡ true → clause_value a xs ≡ true
 unfolding clause_value
 clause_holds a [] k d lt e = absurd (omega arith)
 clause_holds a (x ∷ xs) zero d lt e = ap (λ (b : Bool). b || clause_value a xs) e
-clause_holds a (x ∷ xs) (suc k) d lt e = ap (λ (b : Bool). value a x || b) (clause_holds a xs k d (omega arith) e) ∙ or_true (value a x)
+clause_holds a (x ∷ xs) (suc k) d lt e = ap (λ (b : Bool). value a x || b) (clause_holds a xs k d (omega arith) e) ∙ or-true (value a x)
 
 -- before the first literal none is open
 pub open_none : (on off : Lit) (bits : List Lit) → KeepsTest on off (take 0 bits) []
@@ -63,7 +49,7 @@ open_more on off lit bits open_ next i d h lt e f =
 
     by : (b : Bool) → eqb lit.0 off.0 ≡ b → KeepsTest on off (take i bits ++ lit ∷ []) (cond b open_ (open_ ++ lit ∷ []))
     by true g = record {
-      says = λ a t n. h.says a t n ∙ sym (or_none (clause_value a (take i bits)))
+      says = λ a t n. h.says a t n ∙ sym (or-false (clause_value a (take i bits)))
           ∙ ap (λ (b : Bool). clause_value a (take i bits) || b) (sym (value-same a lit off (eqb-true lit.0 off.0 g) ∙ n)) ∙ sym (clause_push a (take i bits) lit);
       within = λ circuit t all. h.within circuit t (front circuit all);
       few = omega (arith, h.few, length_push (take i bits) lit);
@@ -82,7 +68,7 @@ open_all on off bits open_ i h le = subst (λ (xs : List Lit). KeepsTest on off 
 pub open_true : (on off lit : Lit) (bits open_ : List Lit) (i : ℕ) (d : Lit) → i < length bits → lit ≡ get_or bits i d → lit.0 ≡ on.0 → open_ ≡ copies 1 on → KeepsTest on off bits open_
 unfolding clause_value
 open_true on off lit bits open_ i d lt e same f = subst (λ (xs : List Lit). KeepsTest on off bits xs) (sym f) (record {
-  says = λ a t n. or_none (value a on) ∙ t ∙ sym (clause_holds a bits i d lt (ap (value a) (sym e) ∙ value-same a lit on same ∙ t));
+  says = λ a t n. or-false (value a on) ∙ t ∙ sym (clause_holds a bits i d lt (ap (value a) (sym e) ∙ value-same a lit on same ∙ t));
   within = λ circuit t all. one circuit t;
   few = omega arith;
 })
@@ -103,7 +89,7 @@ clause_empty a (x ∷ xs) e = absurd (omega arith)
 clause_single : (a : Assignment) (xs : List Lit) (d : Lit) → length xs ≡ 1 → clause_value a xs ≡ value a (get_or xs 0 d)
 unfolding clause_value
 clause_single a [] d e = absurd (omega arith)
-clause_single a (x ∷ []) d e = or_none (value a x)
+clause_single a (x ∷ []) d e = or-false (value a x)
 clause_single a (x ∷ y ∷ ys) d e = absurd (omega arith)
 
 -- no open literal: the test is false

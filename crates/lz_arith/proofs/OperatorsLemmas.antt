@@ -1,6 +1,7 @@
 -- The circuits of the operators of the language, at 32 bits.
 use Rattle.std.proofs.Common.{◌≡◌, ℕ, zero, suc, ◌+◌, ◌-◌, ◌*◌, ◌^◌, ◌%◌, ◌<◌, Bool, true, false, not, cond, eqb, List, ◌∷◌, length, get_or, take, refl, sym, ◌∙◌, ap, subst, arith, Result, Ok, Err, OnOk, IfOk}
 use Rattle.std.specs.Int.{int_shr}
+use Rattle.std.proofs.Math.Bool.{not-not}
 use Rattle.lz_base.specs.declared.word.IntType.{IntType}
 use Rattle.lz_base.specs.Words.{value_bound, signed, wrapped, truth, is_true}
 use Rattle.lz_cnf.specs.declared.clause.Lit.{Lit}
@@ -58,10 +59,6 @@ turned_of one two lit own turned X v c e h =
     by false a = refl
 
 -- the opposite of the opposite
-not_not : (b : Bool) → not (not b) ≡ b
-not_not true = refl
-not_not false = refl
-
 -- a difference, turned so that it says whether two words are equal
 pub equal_of : (one two : Circuit) (lit own : Lit) (turned : Bool) (E : Assignment → Bool) (v c : ℕ) → own ≡ cond (not turned) (negated lit) lit
     → Makes one two v c (λ a. value a lit ≡ not (E a)) → Makes one two v c (λ a. value a own ≡ cond turned (not (E a)) (E a))
@@ -70,7 +67,7 @@ equal_of one two lit own turned E v c e h =
   where
     by : (t x : Bool) → cond (not t) (not (not x)) (not x) ≡ cond t (not x) x
     by true x = refl
-    by false x = not_not x
+    by false x = not-not x
 
 -- the truth test in the other sign
 pub not_makes : (one two : Circuit) (bits r : List Lit) (test own : Lit) → length bits ≡ 32 → own ≡ negated test
@@ -78,7 +75,7 @@ pub not_makes : (one two : Circuit) (bits r : List Lit) (test own : Lit) → len
     → Makes two two 0 0 (λ a. word a r ≡ truth (value a own)) → Makes one two 1 33 (λ a. word a r ≡ truth (eqb (word a bits) 0))
 not_makes one two bits r test own long e h k =
     truth_of one two own r (λ a. eqb (word a bits) 0) 1 33
-    (makes_so one two 1 1 (length bits + 1) 33 _ _ h (omega arith) (omega arith) (λ a s p. ap (value a) e ∙ value-negated a test ∙ ap not p ∙ not_not (eqb (word a bits) 0)))
+    (makes_so one two 1 1 (length bits + 1) 33 _ _ h (omega arith) (omega arith) (λ a s p. ap (value a) e ∙ value-negated a test ∙ ap not p ∙ not-not (eqb (word a bits) 0)))
     k
 
 -- the same word
