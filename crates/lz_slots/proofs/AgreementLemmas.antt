@@ -1,7 +1,8 @@
 -- What the numbers of a tree owe to the numbers of the functions that it calls: where these agree, so do those.
-use Rattle.std.proofs.Common.{◌≡◌, ℕ, ◌+◌, ◌*◌, List, [], ◌∷◌, ◌++◌, Option, Some, None, refl, ap, ◌∙◌, arith}
+use Rattle.std.proofs.Common.{◌≡◌, ℕ, ◌+◌, ◌*◌, List, [], ◌∷◌, ◌++◌, Option, Some, None, refl, ap, ◌∙◌}
 use Rattle.std.specs.List.{Contains}
 use Rattle.std.proofs.lemmas.List.Elements.{Contains-append_left, Contains-append_right}
+use Rattle.lz_base.proofs.ListLemmas.{head_contained}
 use Rattle.lz_tree.specs.declared.scoped.Object.{Object}
 use Rattle.lz_tree.specs.declared.scoped.Object.TheVariants.{Local, Cell, Mutex, Cond, Handle, Routine, Known}
 use Rattle.lz_tree.specs.declared.scoped.KnownName.{KnownName}
@@ -39,9 +40,6 @@ agree_left xs ys a = record { at = λ x here. a.at x (Contains-append_left xs ys
 
 pub agree_right : {h : ℕ → ℕ} {f g : ℕ → ℕ} (xs ys : List ℕ) → Agree h f g (xs ++ ys) → Agree h f g ys
 agree_right xs ys a = record { at = λ x here. a.at x (Contains-append_right xs ys x here) }
-
-head_contained : (f : ℕ) (rest : List ℕ) → Contains (f ∷ rest) f
-head_contained f rest = (0, omega arith, refl)
 
 -- ---- costs
 
