@@ -2,6 +2,7 @@
 use Rattle.std.proofs.Common.{◌≡◌, ◌≢◌, ℕ, ◌+◌, ◌-◌, ◌<◌, ◌≤◌, inl, inr, min, Bool, true, false, ◌&&◌, ◌||◌, eqb, ltb, cond, List, [], ◌∷◌, length, slice_index, Option, Some, None, refl, sym, ◌∙◌, ap, subst, arith}
 use Rattle.std.proofs.lemmas.Bool.{eqb-true, eqb-false}
 use Rattle.std.proofs.lemmas.Bool.Decides.{nat_tests}
+use Rattle.std.proofs.lemmas.Option.{same_Some}
 use Rattle.lz_base.specs.Words.{value_bound}
 use Rattle.lz_tree.specs.ScopedTrees.{ScopedProgram}
 use Rattle.lz_model.specs.declared.actions.Action.{Action}
@@ -88,9 +89,6 @@ signal_made s t cond_ u goes =
     below true c e h = grind (arith, nat_tests)
     below false c e h = absurd cc
 
-some_is : (a b : ℕ) → Some a ≡ Some b → a ≡ b
-some_is a b e = cc
-
 -- a signal that wakes the chosen thread, which is among the first, is answered
 signal_chosen : (s : State) (t cond_ choice : ℕ) (w v : Option ℕ) → length s.threads ≤ 17 → w ≡ woken_by choice → choice_of (Signal cond_ v) ≡ Some choice → act s t (Signal cond_ v) ≢ blocked
     → choice_of (Signal cond_ w) ≡ Some choice
@@ -104,9 +102,9 @@ signal_chosen s t cond_ choice w v few is chosen goes = by (eqb choice 0) refl v
 
     by : (b : Bool) → eqb choice 0 ≡ b → (o : Option ℕ) → choice_of (Signal cond_ o) ≡ Some choice → act s t (Signal cond_ o) ≢ blocked → choice_of (Signal cond_ w) ≡ Some choice
     by true h o c g = ap (λ (x : Option ℕ). choice_of (Signal cond_ x)) (woken_is_at true h) ∙ ap (λ (x : ℕ). Some x) (sym (eqb-true choice 0 h))
-    by false h None c g = absurd (eqb-false choice 0 h (sym (some_is 0 choice c)))
+    by false h None c g = absurd (eqb-false choice 0 h (sym (same_Some 0 choice c)))
     by false h (Some u) c g =
-        ap (λ (x : Option ℕ). choice_of (Signal cond_ x)) (woken_is_at false h) ∙ ap (λ (x : ℕ). Some x) (small u (some_is (u + 1) choice c) (signal_made s t cond_ u g))
+        ap (λ (x : Option ℕ). choice_of (Signal cond_ x)) (woken_is_at false h) ∙ ap (λ (x : ℕ). Some x) (small u (same_Some (u + 1) choice c) (signal_made s t cond_ u g))
 
 -- what stands for an answered action, has the choice and goes: then the answered one has the choice
 other_chosen : (a o : Action) (choice : ℕ) (s : State) (t : ℕ) → length s.threads ≤ 17 → HasChosen choice a → StandsFor a o → choice_of o ≡ Some choice → act s t o ≢ blocked → choice_of a ≡ Some choice

@@ -8,7 +8,7 @@ use Rattle.std.specs.Fmt.{decimal}
 use Rattle.std.specs.Str.{bytes_eq, IsAscii}
 use Rattle.std.specs.Result.{result_ok, OkIff}
 use Rattle.std.specs.Str.Parse.{AllDigits, digits_value, ParsesUnsigned}
-use Rattle.std.proofs.lemmas.Bool.{and_parts}
+use Rattle.std.proofs.lemmas.Bool.{and_parts, or_right}
 use Rattle.std.proofs.lemmas.Bool.Decides.{nat_tests, Decides-eqb}
 use Rattle.std.proofs.lemmas.Slice.Eq.{starts_is, bytes_eq-Decides}
 use Rattle.std.proofs.lemmas.Str.Parse.{tells_digits, parse_digits}
@@ -248,10 +248,6 @@ passed_spelled (b ∷ rest) h = by (bytes_eq (b ∷ rest) (codes "FAILED")) (sta
     by false true r p q s h = check (record { rest = drop (length (codes "check ")) (b ∷ rest); is = (starts_is Decides-eqb (b ∷ rest) (codes "check ") (starts_with eqb (b ∷ rest) (codes "check ")) refl).0 q })
     by false false true p q s h = rounds (record { rest = drop (length (codes "rounds ")) (b ∷ rest); is = (starts_is Decides-eqb (b ∷ rest) (codes "rounds ") (starts_with eqb (b ∷ rest) (codes "rounds ")) refl).0 s })
     by false false false p q s h = absurd cc
-
-or_right : (a b : Bool) → b ≡ true → (a || b) ≡ true
-or_right true b e = refl
-or_right false b e = e
 
 pub passed_read : (line : List ℕ) → IsPassedOver line → is_passed_over line ≡ true
 passed_read [] h = refl
