@@ -5,14 +5,12 @@ use Rattle.std.proofs.lemmas.Bool.{cases_eq, cases_lt, ne_eqb, eqb-true, or_case
 use Rattle.std.proofs.lemmas.List.{length-append, length-set, get_or_append_left, get_or_push, get_or-set_same, get_or-set_other, get_or_default}
 use Rattle.std.proofs.lemmas.List.Elements.{recursion_from_All}
 use Rattle.std.proofs.lemmas.Map.Steps.{length-le_from_distinct_below}
+use Rattle.lz_base.proofs.ListLemmas.{head_contained, none_contained}
 use Rattle.lz_cnf.specs.declared.clause.Lit.{Lit}
 use Rattle.lz_cnf.proofs.LitLemmas.{same_lit}
 use Rattle.lz_prop.specs.Watch.{IsChain, IsListed, AreListed, IsRun, last_of, AreApart, IsAlong, next_without, firsts_without, IsShifted}
 
 -- ---- members
-
-first_in : (w : ℕ) (ws : List ℕ) → Contains (w ∷ ws) w
-first_in w ws = (0, omega arith, refl)
 
 rest_in : (w v : ℕ) (ws : List ℕ) → Contains ws v → Contains (w ∷ ws) v
 rest_in w v ws h = (suc h.0, (let lt = h.1 in omega arith), h.2)
@@ -21,9 +19,6 @@ pub in_list : (w v : ℕ) (ws : List ℕ) → Contains (w ∷ ws) v → (v ≡ w
 in_list w v ws (zero, lt, at) = inl (sym at)
 in_list w v ws (suc k, lt, at) = inr (k, omega (arith, lt), at)
 
-none_in : (v : ℕ) → Contains [] v → ⊥
-none_in v has = let lt = has.1 in omega arith
-
 -- ---- chains
 
 chain_same : (next next2 : List ℕ) (start : ℕ) (ws : List ℕ) → length next ≤ length next2 → ((v : ℕ) → Contains ws v → get_or next2 v 0 ≡ get_or next v 0) → IsChain next start ws → IsChain next2 start ws
@@ -31,13 +26,13 @@ chain_same next next2 start [] le same h = h
 chain_same next next2 start (w ∷ ws) le same h = (
   h.0,
   (let lt = h.1 in omega arith),
-  subst (λ (n : ℕ). IsChain next2 n ws) (sym (same w (first_in w ws))) (chain_same next next2 (get_or next w 0) ws le (λ v has. same v (rest_in w v ws has)) h.2),
+  subst (λ (n : ℕ). IsChain next2 n ws) (sym (same w (head_contained w ws))) (chain_same next next2 (get_or next w 0) ws le (λ v has. same v (rest_in w v ws has)) h.2),
 )
 
 run_same : (next next2 : List ℕ) (start : ℕ) (ps : List ℕ) (end : ℕ) → length next ≤ length next2 → ((v : ℕ) → Contains ps v → get_or next2 v 0 ≡ get_or next v 0) → IsRun next start ps end → IsRun next2 start ps end
 run_same next next2 start [] end le same h = h
 run_same next next2 start (p ∷ ps) end le same h =
-    (same p (first_in p ps) ∙ h.0, (let lt = h.1 in omega arith), run_same next next2 start ps (suc p) le (λ v has. same v (rest_in p v ps has)) h.2)
+    (same p (head_contained p ps) ∙ h.0, (let lt = h.1 in omega arith), run_same next next2 start ps (suc p) le (λ v has. same v (rest_in p v ps has)) h.2)
 
 -- a list is determined by its start
 pub chain_unique : (next : List ℕ) (start : ℕ) (a b : List ℕ) → IsChain next start a → IsChain next start b → a ≡ b
@@ -50,7 +45,7 @@ chain_unique next start (w ∷ ws) (v ∷ vs) p q =
     ap (λ (l : List ℕ). w ∷ l) (chain_unique next (get_or next w 0) ws vs p.2 (subst (λ (n : ℕ). IsChain next (get_or next n 0) vs) (sym same) q.2)) ∙ ap (λ (n : ℕ). n ∷ vs) same
 
 chain_from : (next : List ℕ) (start v : ℕ) (ws : List ℕ) → IsChain next start ws → Contains ws v → (vs : List ℕ) × IsChain next (suc v) (v ∷ vs) × (length vs < length ws)
-chain_from next start v [] h has = absurd (none_in v has)
+chain_from next start v [] h has = absurd (none_contained v has)
 chain_from next start v (w ∷ ws) h has = elim (in_list w v ws has) [
   | inl same ↦ (ws, subst (λ (n : ℕ). IsChain next (suc n) (n ∷ ws)) (sym same) (refl, h.1, h.2), omega arith)
   | inr rest ↦ (let r = chain_from next (get_or next w 0) v ws h.2 rest in (r.0, r.1, (let lt = r.2 in omega arith)))
@@ -94,7 +89,7 @@ any_in : (ws : List ℕ) (n q : ℕ) → ((v : ℕ) → Contains ws v → v < n)
 any_in [] n q below h = absurd cc
 any_in (w ∷ ws) n q below h =
     ⊎_elim
-    (λ here. let same = eqb-true q w here in let lt = below w (first_in w ws) in omega arith)
+    (λ here. let same = eqb-true q w here in let lt = below w (head_contained w ws) in omega arith)
     (λ rest. any_in ws n q (λ v has. below v (rest_in w v ws has)) rest)
     (or_cases (eqb q w) (list_any (eqb q) ws) h)
 
@@ -118,7 +113,7 @@ in_onto [] ws v h = inr h
 in_onto (p ∷ ps) ws v h = elim (in_onto ps (p ∷ ws) v h) [
   | inl past ↦ inl (rest_in p v ps past)
   | inr more ↦ elim (in_list p v ws more) [
-    | inl same ↦ inl (subst (Contains (p ∷ ps)) (sym same) (first_in p ps))
+    | inl same ↦ inl (subst (Contains (p ∷ ps)) (sym same) (head_contained p ps))
     | inr rest ↦ inr rest
   ]
 ]
@@ -130,9 +125,9 @@ onto_rest (p ∷ ps) ws v h = onto_rest ps (p ∷ ws) v (rest_in p v ws h)
 
 onto_past : (ps ws : List ℕ) (v : ℕ) → Contains ps v → Contains (onto ps ws) v
 unfolding onto
-onto_past [] ws v h = absurd (none_in v h)
+onto_past [] ws v h = absurd (none_contained v h)
 onto_past (p ∷ ps) ws v h = elim (in_list p v ps h) [
-  | inl same ↦ onto_rest ps (p ∷ ws) v (subst (Contains (p ∷ ws)) (sym same) (first_in p ws))
+  | inl same ↦ onto_rest ps (p ∷ ws) v (subst (Contains (p ∷ ws)) (sym same) (head_contained p ws))
   | inr past ↦ onto_past ps (p ∷ ws) v past
 ]
 
@@ -143,12 +138,12 @@ along_begins guards next start lit is = record {
   run = refl;
   chain = is.chain;
   before_is = refl;
-  past_members = λ v has. absurd (none_in v has);
+  past_members = λ v has. absurd (none_contained v has);
   rest_members = is.members;
   whole = λ v lt at. inr (is.whole v lt at);
   past_apart = tt;
   rest_apart = chain_apart next start is.list is.chain;
-  apart = λ v has rest. none_in v has;
+  apart = λ v has rest. none_contained v has;
 }
 
 pub along_listed : (guards : List Lit) (next : List ℕ) (start : ℕ) (lit : Lit) (before at : ℕ) (past rest : List ℕ) → IsAlong guards next start lit before at past rest → IsListed guards next start lit
@@ -167,18 +162,18 @@ along_stays guards next start lit before at past w ws is = record {
   chain = is.chain.2;
   before_is = is.chain.0;
   past_members = λ v has. elim (in_list w v past has) [
-    | inl same ↦ is.rest_members v (subst (Contains (w ∷ ws)) (sym same) (first_in w ws))
+    | inl same ↦ is.rest_members v (subst (Contains (w ∷ ws)) (sym same) (head_contained w ws))
     | inr p ↦ is.past_members v p
   ];
   rest_members = λ v has. is.rest_members v (rest_in w v ws has);
   whole = λ v lt e. elim (is.whole v lt e) [
     | inl p ↦ inl (rest_in w v past p)
     | inr r ↦ elim (in_list w v ws r) [
-      | inl same ↦ inl (subst (Contains (w ∷ past)) (sym same) (first_in w past))
+      | inl same ↦ inl (subst (Contains (w ∷ past)) (sym same) (head_contained w past))
       | inr later ↦ inr later
     ]
   ];
-  past_apart = (λ has. is.apart w has (first_in w ws), is.past_apart);
+  past_apart = (λ has. is.apart w has (head_contained w ws), is.past_apart);
   rest_apart = is.rest_apart.1;
   apart = λ v has rest. elim (in_list w v past has) [
     | inl same ↦ is.rest_apart.0 (subst (Contains ws) same rest)
@@ -215,7 +210,7 @@ listed_first guards guards2 next next2 start lit w le within link in_guards own 
     | inr rest ↦ (let m = is.members v rest in there v m.0 m.1)
   ];
   whole = λ v lt e. elim (back v lt e) [
-    | inl same ↦ subst (Contains (w ∷ is.list)) (sym same) (first_in w is.list)
+    | inl same ↦ subst (Contains (w ∷ is.list)) (sym same) (head_contained w is.list)
     | inr b ↦ rest_in w v is.list (is.whole v b.0 b.1)
   ];
 }
@@ -266,7 +261,7 @@ length-without next (p ∷ ps) behind = length-set next p behind
 
 without_other : (next past : List ℕ) (behind v : ℕ) → (Contains past v → ⊥) → get_or (next_without next (last_of past) behind) v 0 ≡ get_or next v 0
 without_other next [] behind v off = refl
-without_other next (p ∷ ps) behind v off = get_or-set_other next p v behind 0 (λ e. off (subst (Contains (p ∷ ps)) (sym e) (first_in p ps)))
+without_other next (p ∷ ps) behind v off = get_or-set_other next p v behind 0 (λ e. off (subst (Contains (p ∷ ps)) (sym e) (head_contained p ps)))
 
 pub length-firsts_without : (firsts : List ℕ) (lit before behind : ℕ) → length (firsts_without firsts lit before behind) ≡ length firsts
 length-firsts_without firsts lit zero behind = length-set firsts lit behind
@@ -321,11 +316,11 @@ shifted_at guards next firsts lit at past w ws to are is number number_to ne fir
     let long2f = length-set firsts1 to.0 (suc w) in
     let guards2 = set guards w to in
     let long2g = length-set guards w to in
-    let own = is.rest_members w (first_in w ws) in
+    let own = is.rest_members w (head_contained w ws) in
     let within = own.0 in
     let differ : (v : ℕ) → (v ≡ w → ⊥) → get_or next2 v 0 ≡ get_or next1 v 0 = λ v off. get_or-set_other next1 w v front 0 off in
     let link1 : (v : ℕ) → (Contains past v → ⊥) → get_or next1 v 0 ≡ get_or next v 0 = λ v off. ap (λ (xs : List ℕ). get_or xs v 0) next1_is ∙ without_other next past behind v off in
-    let off_past : Contains past w → ⊥ = λ has. is.apart w has (first_in w ws) in
+    let off_past : Contains past w → ⊥ = λ has. is.apart w has (head_contained w ws) in
     let guard_old : (v : ℕ) (d : Lit) → (v ≡ w → ⊥) → get_or guards2 v d ≡ get_or guards v d = λ v d off. get_or-set_other guards w v to d off in
     let guard_own : (d : Lit) → get_or guards2 w d ≡ to = λ d. get_or-set_same guards w to d within in
     let first_old : (l : ℕ) → (l ≡ to.0 → ⊥) → get_or firsts2 l 0 ≡ get_or firsts1 l 0 = λ l off. get_or-set_other firsts1 to.0 l (suc w) 0 off in
