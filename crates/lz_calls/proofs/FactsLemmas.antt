@@ -1,8 +1,8 @@
 -- The facts of a program from the ranks of its functions, their heights and what start routines reach.
 use Rattle.std.proofs.Common.{◌≡◌, ℕ, zero, suc, ◌+◌, ◌<◌, ◌≤◌, ◌⊎◌, ◌==◌, ◌&&◌, Bool, true, false, nat_lt, List, [], ◌∷◌, ◌++◌, map, length, get_or, slice_get, slice_index, slice_index_or, Option, Some, None, refl, sym, ap, ◌∙◌, subst, arith, inl, inr, eq-eqb, option_map, if◌then◌else◌, IsTrue, ◌↔◌, Vec, Global}
 use Rattle.std.specs.List.{Contains, filter, list_any}
-use Rattle.std.proofs.lemmas.Bool.{cases_lt, cases_eq, cases_Bool, eqb-true, lt-ltb, le-ltb}
-use Rattle.std.proofs.lemmas.List.{length-map}
+use Rattle.std.proofs.lemmas.Bool.{cases_lt, cases_eq, cases_Bool, eqb-true, lt-ltb, le-ltb, false≢true}
+use Rattle.std.proofs.lemmas.List.{length-map, length_push}
 use Rattle.std.proofs.lemmas.List.Folds.{list_any_at}
 use Rattle.std.proofs.lemmas.Map.Views.{any-filter_same}
 use Rattle.std.proofs.lemmas.Option.{slice_get_within, slice_get-map, slice_get-get_or}
@@ -15,7 +15,7 @@ use Rattle.lz_calls.specs.Heights.{capped, body_height, height_through, greatest
 use Rattle.lz_calls.specs.Ranks.{IsRanking, AreReturning, IsRankOrder, IsFalling}
 use Rattle.lz_calls.specs.Reaching.{Among, IsReach}
 use Rattle.lz_calls.specs.Facts.{AreStarts, IsRecursionFree, IsOrderOf}
-use Rattle.lz_calls.proofs.ReachingLemmas.{no_truth, calls_within, among_contains, among_last, among_push}
+use Rattle.lz_calls.proofs.ReachingLemmas.{calls_within, among_contains, among_last, among_push}
 use Rattle.lz_calls.proofs.RanksLemmas.{same_rank, default}
 use Rattle.lz_calls.proofs.HeightsLemmas.{sees_all, statement_agrees, calls_of_body, height_fixed, lower}
 
@@ -30,16 +30,12 @@ push_get [] n (suc x) low = absurd (omega arith)
 push_get (y ∷ xs) n zero low = inl (omega arith, refl)
 push_get (y ∷ xs) n (suc x) low = elim (push_get xs n x (omega arith)) [ inl old ↦ inl (omega (arith, old.0), old.1) | inr new ↦ inr (ap suc new.0, new.1) ]
 
-long_push : {A : Type 0} (xs : List A) (n : A) → length (xs ++ n ∷ []) ≡ suc (length xs)
-long_push [] n = refl
-long_push (x ∷ xs) n = ap suc (long_push xs n)
-
 -- one more row
 pub rows_turn : (graph : List (List ℕ)) (ranks : List ℕ) (count : ℕ) (rows : List (List ℕ)) (new : List ℕ) → AreReturning graph ranks count rows → new ≡ filter (λ g. slice_index ranks g == slice_index ranks count) (row (slice_get graph count)) → AreReturning graph ranks (count + 1) (rows ++ new ∷ [])
 rows_turn graph ranks count rows new so_far is =
     let long : length rows ≡ count = so_far.long in
     record {
-      long = (let more = long_push rows new in omega (arith, more, long));
+      long = (let more = length_push rows new in omega (arith, more, long));
       each = λ f low.
           elim (push_get rows new f (omega arith)) [
             | inl old ↦ old.1 ∙ so_far.each f (omega (arith, old.0))
@@ -122,7 +118,7 @@ starts_turn functions count starts new d is so_far made =
           subst (AreStarts functions (count + 1)) (sym all) (record {
             sound = so_far.sound;
             complete = λ s low start. elim (cases_eq s count) [
-              | inl e ↦ absurd (no_truth (sym starts_not ∙ same_start functions count d is (subst (IsStart functions) e start)))
+              | inl e ↦ absurd (false≢true (sym starts_not ∙ same_start functions count d is (subst (IsStart functions) e start)))
               | inr other ↦ so_far.complete s (omega (arith, low, other)) start
             ];
           })

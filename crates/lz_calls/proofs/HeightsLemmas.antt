@@ -1,7 +1,7 @@
 -- What the heights of bodies owe to the heights of the functions that they call.
 use Rattle.std.proofs.Common.{◌≡◌, ℕ, zero, suc, ◌+◌, ◌<◌, ◌≤◌, ◌⊎◌, ◌==◌, max, Bool, true, false, List, [], ◌∷◌, ◌++◌, map, length, set, get_or-set_same, get_or-set_other, length-set, get_or, slice_get, slice_index, Option, Some, None, refl, sym, ap, ◌∙◌, subst, arith, inl, inr, eq-eqb, All, option_map, if◌then◌else◌}
 use Rattle.std.specs.List.{Contains}
-use Rattle.std.proofs.lemmas.Bool.{cases_lt, cases_eq, cases_Bool}
+use Rattle.std.proofs.lemmas.Bool.{cases_lt, cases_eq, cases_Bool, false≢true}
 use Rattle.std.proofs.lemmas.List.{get_or_past}
 use Rattle.std.proofs.lemmas.Option.{slice_get_past, slice_get-map}
 use Rattle.std.proofs.lemmas.List.Elements.{Contains-append_left, Contains-append_right}
@@ -12,7 +12,6 @@ use Rattle.lz_tree.specs.Calls.{called, expression_calls, index_calls, expressio
 use Rattle.lz_calls.specs.Calls.{graph_of, row, Calls, height_called, height_in, height_at, height_in_index, height_in_all, height_in_optional, height_in_initializer, height_in_declarators, height_of, height_of_branch, height_of_all}
 use Rattle.lz_calls.specs.Heights.{capped, counts_at, body_height, height_through, greatest, height_at_rank}
 use Rattle.lz_calls.specs.Ranks.{IsRanking, IsRankOrder}
-use Rattle.lz_calls.proofs.ReachingLemmas.{no_truth}
 
 -- What is seen of heights that tells a height from what is seen of the parts: all, or where they stop.
 pub record Sees (h : ℕ → ℕ) : Type 0 where
@@ -126,7 +125,7 @@ pick : (h : ℕ → ℕ) (r own a b : ℕ) → (r ≡ own) ⊎ (h a ≡ h b) →
 pick h r own a b how =
     elim (cases_Bool (r == own)) [
       | inl e ↦ rw e refl
-      | inr e ↦ elim how [ inl same ↦ absurd (no_truth (sym e ∙ eq-eqb r own same)) | inr alike ↦ rw e alike ]
+      | inr e ↦ elim how [ inl same ↦ absurd (false≢true (sym e ∙ eq-eqb r own same)) | inr alike ↦ rw e alike ]
     ]
 
 -- the row of a function

@@ -2,7 +2,7 @@
 use Rattle.std.proofs.Common.{◌≡◌, ℕ, zero, suc, ◌+◌, ◌<◌, ◌≤◌, ◌⊎◌, Bool, true, false, List, [], ◌∷◌, ◌++◌, length, get_or, slice_get, slice_index, slice_index_or, refl, sym, ap, ◌∙◌, subst, arith, inl, inr, All}
 use Rattle.std.specs.List.{Contains, count_by}
 use Rattle.std.specs.List.Sorted.{IsPermutation, IsNonDecreasingBy}
-use Rattle.std.proofs.lemmas.Bool.{cases_lt, cases_eq, cases_Bool}
+use Rattle.std.proofs.lemmas.Bool.{cases_lt, cases_eq, cases_Bool, false≢true}
 use Rattle.std.proofs.lemmas.List.{get_or_past}
 use Rattle.std.proofs.lemmas.List.Recursion.{is_count_by}
 use Rattle.std.proofs.lemmas.List.Sorted.{length_permutation, All-permutation, Contains-permutation}
@@ -10,7 +10,7 @@ use Rattle.lz_tree.specs.Calls.{StandsBefore}
 use Rattle.lz_calls.specs.Calls.{row, Calls, Path, Reaches}
 use Rattle.lz_calls.specs.Reaching.{Among, IsReachedFrom, Marked, IsReach}
 use Rattle.lz_calls.specs.Ranks.{ones, IsCount, IsRanking, IsRankOrder, IsFalling, AreLower}
-use Rattle.lz_calls.proofs.ReachingLemmas.{calls_within, no_truth}
+use Rattle.lz_calls.proofs.ReachingLemmas.{calls_within}
 
 pub ones-count_by : (marks : List Bool) → ones marks ≡ count_by (λ m. m) marks
 ones-count_by marks = is_count_by ones (λ m. m) refl (λ x xs. refl) marks
@@ -23,25 +23,25 @@ ones_le : (xs ys : List Bool) → length xs ≡ length ys → ((i : ℕ) → Mar
 ones_le [] ys long sub = omega arith
 ones_le (x ∷ xs) [] long sub = absurd (omega arith)
 ones_le (true ∷ xs) (true ∷ ys) long sub = let rest = ones_le xs ys (omega arith) (λ i m. sub (suc i) m) in omega arith
-ones_le (true ∷ xs) (false ∷ ys) long sub = absurd (no_truth (sub 0 refl))
+ones_le (true ∷ xs) (false ∷ ys) long sub = absurd (false≢true (sub 0 refl))
 ones_le (false ∷ xs) (true ∷ ys) long sub = let rest = ones_le xs ys (omega arith) (λ i m. sub (suc i) m) in omega arith
 ones_le (false ∷ xs) (false ∷ ys) long sub = ones_le xs ys (omega arith) (λ i m. sub (suc i) m)
 
 ones_lt : (xs ys : List Bool) (k : ℕ) → length xs ≡ length ys → ((i : ℕ) → Marked xs i → Marked ys i) → Marked ys k → slice_index_or xs k false ≡ false → ones xs < ones ys
-ones_lt xs [] k long sub more less = absurd (no_truth more)
+ones_lt xs [] k long sub more less = absurd (false≢true more)
 ones_lt [] (y ∷ ys) k long sub more less = absurd (omega arith)
-ones_lt (true ∷ xs) (y ∷ ys) zero long sub more less = absurd (no_truth (sym less))
+ones_lt (true ∷ xs) (y ∷ ys) zero long sub more less = absurd (false≢true (sym less))
 ones_lt (false ∷ xs) (true ∷ ys) zero long sub more less = let rest = ones_le xs ys (omega arith) (λ i m. sub (suc i) m) in omega arith
-ones_lt (false ∷ xs) (false ∷ ys) zero long sub more less = absurd (no_truth more)
+ones_lt (false ∷ xs) (false ∷ ys) zero long sub more less = absurd (false≢true more)
 ones_lt (true ∷ xs) (true ∷ ys) (suc k) long sub more less = let rest = ones_lt xs ys k (omega arith) (λ i m. sub (suc i) m) more less in omega arith
-ones_lt (true ∷ xs) (false ∷ ys) (suc k) long sub more less = absurd (no_truth (sub 0 refl))
+ones_lt (true ∷ xs) (false ∷ ys) (suc k) long sub more less = absurd (false≢true (sub 0 refl))
 ones_lt (false ∷ xs) (true ∷ ys) (suc k) long sub more less = let rest = ones_lt xs ys k (omega arith) (λ i m. sub (suc i) m) more less in omega arith
 ones_lt (false ∷ xs) (false ∷ ys) (suc k) long sub more less = ones_lt xs ys k (omega arith) (λ i m. sub (suc i) m) more less
 
 ones_positive : (xs : List Bool) (k : ℕ) → Marked xs k → 0 < ones xs
-ones_positive [] k m = absurd (no_truth m)
+ones_positive [] k m = absurd (false≢true m)
 ones_positive (true ∷ xs) k m = omega arith
-ones_positive (false ∷ xs) zero m = absurd (no_truth m)
+ones_positive (false ∷ xs) zero m = absurd (false≢true m)
 ones_positive (false ∷ xs) (suc k) m = ones_positive xs k m
 
 -- one call before a path
@@ -56,7 +56,7 @@ to_one : (graph : List (List ℕ)) (f x : ℕ) → Reaches graph f x → IsReach
 to_one graph f x p = record { start = f; among = inl refl; path = p }
 
 marked_within : (marks : List Bool) (x : ℕ) → Marked marks x → x < length marks
-marked_within [] x m = absurd (no_truth m)
+marked_within [] x m = absurd (false≢true m)
 marked_within (b ∷ marks) zero m = omega arith
 marked_within (b ∷ marks) (suc x) m = let low = marked_within marks x m in omega arith
 

@@ -1,23 +1,19 @@
 -- A search by marks: what is marked can be reached, and once no work is left all that can be reached is marked.
 use Rattle.std.proofs.Common.{◌≡◌, ℕ, zero, suc, ◌+◌, ◌*◌, ◌<◌, ◌≤◌, ◌⊎◌, Bool, true, false, List, [], ◌∷◌, ◌++◌, length, drop, replicate, get_or, slice_get, slice_index_or, slice_set, refl, sym, ap, ◌∙◌, subst, arith, inl, inr, drop-cons}
 use Rattle.std.specs.List.{Contains}
-use Rattle.std.proofs.lemmas.Bool.{cases_lt}
+use Rattle.std.proofs.lemmas.Bool.{cases_lt, false≢true}
+use Rattle.std.proofs.lemmas.List.{length_push}
 use Rattle.std.proofs.lemmas.Option.{slice_get_past}
+use Rattle.lz_base.proofs.ListLemmas.{none_contained}
 use Rattle.lz_calls.specs.Calls.{row, Calls, Path, Reaches}
 use Rattle.lz_calls.specs.Reaching.{Among, IsReachedFrom, Marked, open_ones, work_left, Marks, Search, Looking, IsReach}
-
-pub no_truth : false ≡ true → ⊥
-no_truth e = absurd cc
-
-no_item : (x : ℕ) → Contains [] x → ⊥
-no_item x h = let low : h.0 < 0 = h.1 in absurd (omega arith)
 
 -- what calls something is a function
 pub calls_within : (graph : List (List ℕ)) (f g : ℕ) → Calls graph f g → f < length graph
 calls_within graph f g c =
     elim (cases_lt f (length graph)) [
       | inl low ↦ low
-      | inr past ↦ absurd (no_item g (subst (λ r. Contains (row r) g) (slice_get_past graph f past) c))
+      | inr past ↦ absurd (none_contained g (subst (λ r. Contains (row r) g) (slice_get_past graph f past) c))
     ]
 
 -- what stands in a list, by its place
@@ -170,8 +166,8 @@ module _ (graph : List (List ℕ)) (starts : List ℕ) where
 
 -- in a list of no marks nothing is marked
 pub no_marks : (n f : ℕ) → Marked (replicate n false) f → ⊥
-no_marks zero f m = absurd (no_truth m)
-no_marks (suc n) zero m = absurd (no_truth m)
+no_marks zero f m = absurd (false≢true m)
+no_marks (suc n) zero m = absurd (false≢true m)
 no_marks (suc n) (suc f) m = no_marks n f m
 
 -- a mark is set
@@ -206,10 +202,6 @@ set_long [] f = refl
 set_long (m ∷ marks) zero = refl
 set_long (m ∷ marks) (suc f) = ap suc (set_long marks f)
 
-long_push : (xs : List ℕ) (x : ℕ) → length (xs ++ x ∷ []) ≡ suc (length xs)
-long_push [] x = refl
-long_push (y ∷ xs) x = ap suc (long_push xs x)
-
 pub marks_set : (marks : List Bool) (work : List ℕ) (f : ℕ) → f < length marks → slice_index_or marks f false ≡ false → Marks f marks work (slice_set marks f true) (work ++ f ∷ [])
 marks_set marks work f below unmarked = record {
   is = λ low. set_is marks f below;
@@ -221,7 +213,7 @@ marks_set marks work f below unmarked = record {
         | inl a ↦ inl a
         | inr e ↦ inr (e, subst (λ (x : ℕ). Marked (slice_set marks f true) x) (sym e) (set_is marks f below))
       ];
-  less = (let a = open_set marks f below unmarked in let b = long_push work f in omega arith);
+  less = (let a = open_set marks f below unmarked in let b = length_push work f in omega arith);
   long = set_long marks f;
 }
 
@@ -238,7 +230,7 @@ marks_same marks work f there = record {
 }
 
 pub popped_less : (marks : List Bool) (work : List ℕ) (f : ℕ) → suc (work_left marks work) ≡ work_left marks (work ++ f ∷ [])
-popped_less marks work f = let b = long_push work f in omega arith
+popped_less marks work f = let b = length_push work f in omega arith
 
 pub drop_at : (xs : List ℕ) (i : ℕ) → i < length xs → drop i xs ≡ slice_index_or xs i 0 ∷ drop (i + 1) xs
 drop_at xs i below = let more : suc i ≡ i + 1 = omega arith in drop-cons xs i 0 below ∙ rw more refl

@@ -1,5 +1,5 @@
 use Rattle.std.proofs.Common.{◌∙◌, sym}
-use Rattle.lz_calls.proofs.ReachingLemmas.{no_truth}
+use Rattle.std.proofs.lemmas.Bool.{false≢true}
 use Rattle.lz_calls.proofs.RanksLemmas.{falling_turn, not_falling}
 use Rattle.lz_calls.proofs.ranks.is_falling.Goals as goal
 
@@ -9,4 +9,4 @@ loop-function-preserved c =
 
 pub returns-then-not-are_lower-clause-no : goal.returns-then-not-are_lower-clause-no
 returns-then-not-are_lower-clause-no c = λ denied falling.
-    not_falling c.args.graph.now c.args.ranks.now c.args.count c.loop-function.function c.rank_at.result c.row.result.now c.loop-function-test.true c.row.ensures c.rank_at.ensures (λ lower. no_truth (sym c.if-not-are_lower.true ∙ c.are_lower.ensures.1 lower)) falling
+    not_falling c.args.graph.now c.args.ranks.now c.args.count c.loop-function.function c.rank_at.result c.row.result.now c.loop-function-test.true c.row.ensures c.rank_at.ensures (λ lower. false≢true (sym c.if-not-are_lower.true ∙ c.are_lower.ensures.1 lower)) falling
