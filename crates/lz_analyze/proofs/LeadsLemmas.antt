@@ -1,7 +1,8 @@
 -- The hints of the analysis, and what a new clause rules out.
-use Rattle.std.proofs.Common.{◌≡◌, ℕ, suc, ◌⊎◌, inl, inr, ⊎_elim, List, [], ◌∷◌, get_or, refl, sym, subst, arith}
+use Rattle.std.proofs.Common.{◌≡◌, ℕ, ◌⊎◌, inl, inr, ⊎_elim, List, [], ◌∷◌, get_or, sym, subst}
 use Rattle.std.specs.List.{All, Contains}
-use Rattle.std.proofs.lemmas.List.Elements.{All-contains, All-cons, All-nil, Contains-get_or}
+use Rattle.std.proofs.lemmas.List.Elements.{All-contains, All-cons, All-nil, Contains-get_or, Contains-append_right}
+use Rattle.lz_base.proofs.ListLemmas.{head_contained}
 use Rattle.lz_cnf.specs.declared.clause.Lit.{Lit}
 use Rattle.lz_cnf.specs.Models.{negated}
 use Rattle.lz_cnf.specs.Partial.{IsFalseLit, IsConsistent, IsOpen, IsQuiet, IsNamed}
@@ -10,12 +11,6 @@ use Rattle.lz_log.specs.Refutation.{LeadsToFalse}
 use Rattle.lz_log.specs.Newness.{IsNewClause}
 use Rattle.lz_log.proofs.RefutationLemmas.{named_has}
 use Rattle.lz_analyze.specs.Walks.{LeadsFrom}
-
-pub in_first : (lit : Lit) (rest : List Lit) → Contains (lit ∷ rest) lit
-in_first lit rest = (0, omega arith, refl)
-
-pub in_rest : (first lit : Lit) (rest : List Lit) → Contains rest lit → Contains (first ∷ rest) lit
-in_rest first lit rest (k, lt, e) = (suc k, omega (arith, lt), e)
 
 -- at the conflict
 pub conflict_leads : (true_ : List Lit) (known : List (List Lit)) (conflict : ℕ) (clause : List Lit) → IsNamed known conflict clause
@@ -42,8 +37,8 @@ resolved_leads true_ known before after reason next hints lit clause consistent 
       (λ k d lt. ⊎_elim (λ same. inl same) (λ left. inr (covers (get_or clause k d) left)) (others (get_or clause k d) (Contains-get_or clause k d lt))),
       leads (negated lit ∷ false_) (All-cons (IsFalseLit true_) (negated lit) false_ flipped are)
           (λ l h. ⊎_elim
-          (λ same. subst (Contains (negated lit ∷ false_)) (sym same) (in_first (negated lit) false_))
-          (λ left. in_rest (negated lit) l false_ (covers l left))
+          (λ same. subst (Contains (negated lit ∷ false_)) (sym same) (head_contained (negated lit) false_))
+          (λ left. Contains-append_right (negated lit ∷ []) false_ l (covers l left))
           (rest l h)),
     )
 

@@ -3,7 +3,8 @@ use Rattle.std.proofs.Common.{◌≡◌, ◌≢◌, ℕ, zero, suc, ◌+◌, ◌
 use Rattle.std.specs.List.{All, Contains, list_any}
 use Rattle.std.proofs.lemmas.Bool.{cases_eq, eq-eqb, and_from}
 use Rattle.std.proofs.lemmas.List.{take_more, take_all}
-use Rattle.std.proofs.lemmas.List.Elements.{All-contains, All-cons, All-nil, All-more, Contains-get_or, Contains-append_left, Contains-push}
+use Rattle.std.proofs.lemmas.List.Elements.{All-contains, All-cons, All-nil, All-more, Contains-get_or, Contains-append_left, Contains-append_right, Contains-push}
+use Rattle.lz_base.proofs.ListLemmas.{head_contained}
 use Rattle.lz_cnf.specs.declared.clause.Lit.{Lit}
 use Rattle.lz_cnf.specs.Models.{variable_of, negated}
 use Rattle.lz_cnf.specs.Partial.{IsFalseLit, IsUnitClause}
@@ -23,7 +24,6 @@ use Rattle.lz_analyze.proofs.LearntLemmas.{learnt_is_new, learnt_was_open, learn
 use Rattle.lz_analyze.proofs.LevelLemmas.{conflict_at_level}
 use Rattle.lz_analyze.proofs.WalkLemmas.{last_open_leads, none_counted, marked_is}
 use Rattle.lz_analyze.proofs.WalkingLemmas.{open_entry}
-use Rattle.lz_analyze.proofs.LeadsLemmas.{in_first, in_rest}
 
 -- ---- false literals
 
@@ -96,8 +96,8 @@ point_follows s marked low at hints e trail point =
     (last_open_leads s (IsTodo s at []) marked low clause (at - 1) e hints trail (subst (λ (n : ℕ). IsWalk s (IsTodo s at []) marked low n 1 hints) same point.walk)
     (λ l todo. let g = todo.0 in omega (arith, g.1))
     (ap (is_open s.level marked) here ∙ point.open_) all
-    (λ k d lt. in_rest (negated e.lit) (get_or low k d) low (Contains-get_or low k d lt))
-    (subst (λ (x : Entry). Contains clause (negated x.lit)) (sym here) (in_first (negated e.lit) low)))
+    (λ k d lt. Contains-append_right (negated e.lit ∷ []) low (get_or low k d) (Contains-get_or low k d lt))
+    (subst (λ (x : Entry). Contains clause (negated x.lit)) (sym here) (head_contained (negated e.lit) low)))
 
 -- the level of a low literal is below that of the point
 apart_from : (s : TrailState) (e : Entry) (lit : Lit) → IsTrail s → Contains s.set e → e.level ≡ s.level → IsFalseAt s.set (λ level. level < s.level) lit → variable_of (negated e.lit) ≡ variable_of lit → ⊥
@@ -157,14 +157,14 @@ point_learnt s marked low at hints e level trail point positive high =
     } in
     record {
       below = below;
-      within = in_first (negated e.lit) low;
+      within = head_contained (negated e.lit) low;
       highest = record { entry = e; within = in_set s marked low at hints e point; negates = sym (negated-negated e.lit); level = omega arith };
       others = All-cons (λ lit. (lit ≡ negated e.lit) ⊎ IsFalseAt s.set (λ n. n ≤ level) lit) (negated e.lit) low (inl refl) (λ k d lt. inr (bounded (get_or low k d) (Contains-get_or low k d lt)));
       reached = ⊎_elim (λ zero_. inl zero_)
           (λ some.
           let at_lit = lower some.0 some.1 in
           let same : at_lit.entry.level ≡ level = (let own = told_level s test some.0 trail at_lit in let told = some.2 in cc) in
-          inr (some.0, in_rest (negated e.lit) some.0 low some.1, record { entry = at_lit.entry; within = at_lit.within; negates = at_lit.negates; level = same }))
+          inr (some.0, Contains-append_right (negated e.lit ∷ []) low some.0 some.1, record { entry = at_lit.entry; within = at_lit.within; negates = at_lit.negates; level = same }))
           high.reached;
     }
 

@@ -1,8 +1,9 @@
 -- The steps of the walk.
 use Rattle.std.proofs.Common.{◌≡◌, ◌≢◌, ℕ, zero, suc, ◌+◌, ◌<◌, ◌≤◌, ◌⊎◌, inl, inr, ⊎_elim, Bool, true, false, cond, eqb, ◌||◌, ◌&&◌, List, [], ◌∷◌, ◌++◌, length, get_or, take, refl, sym, ◌∙◌, ap, subst, arith}
 use Rattle.std.specs.List.{All, Contains, list_any, count_by}
+use Rattle.std.proofs.Math.Bool.{or-false, or-true}
 use Rattle.std.proofs.lemmas.Bool.{cases_lt, cases_eq, cases_Bool, eq-eqb, ne_eqb, or_left, or_right, and_parts, true≢false}
-use Rattle.std.proofs.lemmas.List.{get_or-take, length-take-le}
+use Rattle.std.proofs.lemmas.List.{get_or-take, length-take-le, get_or_default}
 use Rattle.std.proofs.lemmas.List.Folds.{list_any-append}
 use Rattle.std.proofs.lemmas.List.Sums.{count_by_more_yes, sum_by-cons}
 use Rattle.std.proofs.lemmas.List.Elements.{All-contains, All-push, Contains-get_or, Contains-push, Contains-push_cases, Contains-append_left}
@@ -14,7 +15,7 @@ use Rattle.lz_prop.specs.Trail.{Entry, TrailState, IsTrail, literals}
 use Rattle.lz_analyze.specs.Learnt.{IsFalseAt}
 use Rattle.lz_analyze.specs.Walks.{is_open, IsLeft, IsWalk}
 use Rattle.lz_prop.proofs.LitLemmas.{Contains-map}
-use Rattle.lz_prop.proofs.EntryLemmas.{same_read, one_entry, set_consistent}
+use Rattle.lz_prop.proofs.EntryLemmas.{one_entry, set_consistent}
 use Rattle.lz_analyze.proofs.LeadsLemmas.{resolved_leads}
 use Rattle.std.proofs.lemmas.List.Quantifiers.{all_pairs_push}
 use Rattle.lz_cnf.specs.Partial.{IsNamed}
@@ -82,21 +83,13 @@ some_counted p (y ∷ ys) positive =
 marked_more : (v w : ℕ) (marked : List ℕ) → list_any (eqb v) (marked ++ w ∷ []) ≡ (list_any (eqb v) marked || (eqb v w || false))
 marked_more v w marked = list_any-append (eqb v) marked (w ∷ [])
 
-or_false : (b : Bool) → (b || false) ≡ b
-or_false true = refl
-or_false false = refl
-
-or_true : (b : Bool) → (b || true) ≡ true
-or_true true = refl
-or_true false = refl
-
 others_as_before : (v w : ℕ) (marked : List ℕ) → (v ≡ w → ⊥) → list_any (eqb v) (marked ++ w ∷ []) ≡ list_any (eqb v) marked
 others_as_before v w marked ne =
-    marked_more v w marked ∙ ap (λ (b : Bool). list_any (eqb v) marked || (b || false)) (ne_eqb v w ne) ∙ or_false (list_any (eqb v) marked)
+    marked_more v w marked ∙ ap (λ (b : Bool). list_any (eqb v) marked || (b || false)) (ne_eqb v w ne) ∙ or-false (list_any (eqb v) marked)
 
 pub own_mark : (v w : ℕ) (marked : List ℕ) → v ≡ w → list_any (eqb v) (marked ++ w ∷ []) ≡ true
 own_mark v w marked e =
-    marked_more v w marked ∙ ap (λ (b : Bool). list_any (eqb v) marked || (b || false)) (eq-eqb v w e) ∙ or_true (list_any (eqb v) marked)
+    marked_more v w marked ∙ ap (λ (b : Bool). list_any (eqb v) marked || (b || false)) (eq-eqb v w e) ∙ or-true (list_any (eqb v) marked)
 
 more_open : (level w : ℕ) (marked : List ℕ) (e : Entry) → is_open level marked e ≡ true → is_open level (marked ++ w ∷ []) e ≡ true
 more_open level w marked e h =
@@ -179,7 +172,7 @@ last_open_leads s todo marked low clause i d hints trail walk done passes are ha
           absurd (none_counted p (take i s.set) open_.entry none front open_.open_))
       | inr above ↦
           (let at : k ≡ i = omega (arith, open_.within.1) in
-          let same : get_or s.set i d ≡ open_.entry = same_read s.set i d open_.entry within ∙ ap (λ (n : ℕ). get_or s.set n open_.entry) (sym at) ∙ at_k in
+          let same : get_or s.set i d ≡ open_.entry = get_or_default s.set i d open_.entry within ∙ ap (λ (n : ℕ). get_or s.set n open_.entry) (sym at) ∙ at_k in
           let back : negated (get_or s.set i d).lit ≡ l = ap (λ (e : Entry). negated e.lit) same ∙ ap negated open_.negates ∙ negated-negated l in
           subst (Contains clause) back has_last)
     ])
@@ -268,7 +261,7 @@ resolve s todo marked low i pending next hints d reason clause trail walk done p
       | inl below ↦ (let short2 = length-take-le i s.set (omega arith) in
           inr (inl (inr (record { entry = open_.entry; within = (k, omega arith, get_or-take i s.set k open_.entry below ∙ at_k); negates = open_.negates; open_ = open_.open_ }))))
       | inr above ↦ (let at : k ≡ i = omega (arith, open_.within.1) in
-          let same : e ≡ open_.entry = same_read s.set i d open_.entry within ∙ ap (λ (n : ℕ). get_or s.set n open_.entry) (sym at) ∙ at_k in
+          let same : e ≡ open_.entry = get_or_default s.set i d open_.entry within ∙ ap (λ (n : ℕ). get_or s.set n open_.entry) (sym at) ∙ at_k in
           inl (sym (negated-negated l) ∙ ap negated (sym open_.negates) ∙ sym (ap (λ (y : Entry). negated y.lit) same)))
     ])
     left)

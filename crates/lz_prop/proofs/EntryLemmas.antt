@@ -2,7 +2,7 @@
 use Rattle.std.proofs.Common.{◌≡◌, ◌≢◌, ℕ, zero, suc, Some, ◌<◌, ◌≤◌, inl, inr, ⊎_elim, Bool, true, false, cond, eqb, List, [], ◌∷◌, length, get_or, map, refl, sym, ◌∙◌, ap, arith}
 use Rattle.std.specs.List.{All, AllPairs, Contains, list_any}
 use Rattle.std.proofs.lemmas.Bool.{cases_order, eqb-true, eqb-false, ne_eqb, or_cases}
-use Rattle.std.proofs.lemmas.List.{length-map}
+use Rattle.std.proofs.lemmas.List.{length-map, get_or_default}
 use Rattle.std.proofs.lemmas.List.Elements.{Contains-get_or}
 use Rattle.std.proofs.lemmas.Map.Keys.{IsDistinct-from_apart}
 use Rattle.std.proofs.lemmas.Map.Steps.{length-le_from_distinct_below}
@@ -12,15 +12,10 @@ use Rattle.lz_cnf.specs.Partial.{IsConsistent}
 use Rattle.lz_cnf.proofs.LitLemmas.{variable_of-negated, ne_negated}
 use Rattle.lz_prop.proofs.LitLemmas.{Contains-from_map}
 
-pub same_read : {X : Type 0} (xs : List X) (k : ℕ) (d e : X) → k < length xs → get_or xs k d ≡ get_or xs k e
-same_read [] k d e lt = absurd (omega (arith, lt))
-same_read (x ∷ xs) zero d e lt = refl
-same_read (x ∷ xs) (suc k) d e lt = same_read xs k d e (omega arith)
-
 -- entries of one variable are one
 pub one_entry : (s : TrailState) → IsTrail s → (a b : Entry) → Contains s.set a → Contains s.set b → variable_of a.lit ≡ variable_of b.lit → a ≡ b
 one_entry s trail a b (i, li, ea) (j, lj, eb) same =
-    let eb2 : get_or s.set j a ≡ b = same_read s.set j a b lj ∙ eb in
+    let eb2 : get_or s.set j a ≡ b = get_or_default s.set j a b lj ∙ eb in
     elim (cases_order i j) [
       | inl e ↦ sym ea ∙ ap (λ (n : ℕ). get_or s.set n a) e ∙ eb2
       | inr (inl lt) ↦ absurd (trail.apart i j a lt lj (ap (λ (e : Entry). variable_of e.lit) ea ∙ same ∙ sym (ap (λ (e : Entry). variable_of e.lit) eb2)))
@@ -58,7 +53,7 @@ apart_variables f [] apart i j d lt within = absurd (omega (arith, within))
 apart_variables f (x ∷ xs) apart i j d lt within =
     let short : length (map f (x ∷ xs)) ≡ length (x ∷ xs) = length-map (x ∷ xs) f in
     ne_eqb _ _ (λ same. apart i j x lt (omega arith)
-    (sym (read_map f (x ∷ xs) i x) ∙ same_read (map f (x ∷ xs)) i (f x) d (omega arith) ∙ same ∙ same_read (map f (x ∷ xs)) j d (f x) (omega arith) ∙ read_map f (x ∷ xs) j x))
+    (sym (read_map f (x ∷ xs) i x) ∙ get_or_default (map f (x ∷ xs)) i (f x) d (omega arith) ∙ same ∙ get_or_default (map f (x ∷ xs)) j d (f x) (omega arith) ∙ read_map f (x ∷ xs) j x))
 
 -- entries with different variables are no more than the variables: room in the order, and the measure of the search
 pub entries_fit : (set : List Entry) (n : ℕ) → All (λ e. variable_of e.lit < n) set → AllPairs (λ a b. variable_of a.lit ≢ variable_of b.lit) set → length set ≤ n
