@@ -72,9 +72,3 @@ evaluates_end input list i values from e =
     take_whole (suc k) [] h = refl
     take_whole zero (x ∷ xs) h = absurd (let z : ⊥ = omega arith in z)
     take_whole (suc k) (x ∷ xs) h = ap (λ (t : List ℕ). x ∷ t) (take_whole k xs (omega arith))
-
--- the default does not matter within a list
-pub get_or_same : {A : Type 0} (xs : List A) (i : ℕ) (d e : A) → i < length xs → get_or xs i d ≡ get_or xs i e
-get_or_same [] i d e lt = absurd (let z : ⊥ = omega arith in z)
-get_or_same (x ∷ xs) zero d e lt = refl
-get_or_same (x ∷ xs) (suc i) d e lt = get_or_same xs i d e (omega arith)
