@@ -1,8 +1,8 @@
 -- Declarations are read exactly: a type, and declarators up to `;`.
 use Rattle.std.proofs.Common.{◌≡◌, ◌≢◌, ℕ, ◌≤◌, Bool, true, false, List, [], ◌∷◌, ◌++◌, Option, Some, None, refl, sym, ap, subst, ◌∙◌, append_assoc, arith}
-use Rattle.std.specs.Prelude.{◌||◌}
 use Rattle.std.specs.List.{AllByRecursion}
 use Rattle.std.proofs.Math.Bool.{and-false}
+use Rattle.std.proofs.lemmas.Bool.{or_from}
 use Rattle.lz_tree.specs.declared.token.Token.{Token}
 use Rattle.lz_tree.specs.declared.token.TokenKind.{TokenKind}
 use Rattle.lz_tree.specs.declared.token.TokenKind.TheVariants as kinds
@@ -54,9 +54,6 @@ module _ (h : ℕ) where
   length_stops None c b = rw b (and-false _)
   length_stops (Some i) c b = refl
 
-  or_none : (a b : Bool) → a ≡ false → b ≡ false → (a || b) ≡ false
-  or_none a b p q = rw (p, q) refl
-
   init_stops : (i : Initializer) (b : Bool) (c : Token) → b ≡ false → ((e : Expression) → class_goes (below h) 12 e c ≡ false) → init_goes h i b c ≡ false
   init_stops nothing b c none stops = none
   init_stops (single e) b c none stops = stops e
@@ -65,7 +62,7 @@ module _ (h : ℕ) where
   init_stops cond b c none stops = refl
 
   pub declarator_stops : (d : InitDeclarator) (c : Token) → is_mark marks.OpenBracket c ≡ false → is_mark marks.Assign c ≡ false → ((e : Expression) → class_goes (below h) 12 e c ≡ false) → declarator_goes h d c ≡ false
-  declarator_stops d c bracket equal stops = init_stops d.first _ c (or_none _ _ (length_stops d.length c bracket) equal) stops
+  declarator_stops d c bracket equal stops = init_stops d.first _ c (or_from _ _ (length_stops d.length c bracket) equal) stops
 
   -- ---- more declarators
 

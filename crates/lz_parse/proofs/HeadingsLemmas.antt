@@ -1,6 +1,7 @@
 -- What stands before the parameters or the rest of the first declarator is read exactly.
 use Rattle.std.proofs.Common.{◌≡◌, ℕ, Bool, true, false, List, [], ◌∷◌, ◌++◌, Option, Some, None, refl, sym, ap, subst, ◌∙◌, inl, inr}
 use Rattle.std.specs.Prelude.{◌⊎◌, ◌||◌}
+use Rattle.std.proofs.lemmas.Bool.{or_right}
 use Rattle.lz_tree.specs.declared.token.Token.{Token}
 use Rattle.lz_tree.specs.declared.token.TokenKind.{TokenKind}
 use Rattle.lz_tree.specs.declared.token.TokenKind.TheVariants as kinds
@@ -182,10 +183,6 @@ lead_some leads.Nothing u m = inl m
 lead_some leads.Hidden u (line, m) = inr (leads.Hidden, key_word keys.Static leads.Hidden u refl line m)
 lead_some leads.Outside u (line, m) = inr (leads.Outside, key_word keys.Extern leads.Outside u refl line m)
 
-or_second : (p q : Bool) → q ≡ true → (p || q) ≡ true
-or_second true q h = refl
-or_second false q h = h
-
 -- a heading begins with a word of it or of a type
 pub heading_heads : (d : Heading) (c : Token) (u : List Token) → HeadingText d (c ∷ u) → (begins_lead c || begins_type c) ≡ true
 heading_heads d c u (w, (a, b, same, l, m)) = by_lead a b same (lead_some w a l) m
@@ -199,7 +196,7 @@ heading_heads d c u (w, (a, b, same, l, m)) = by_lead a b same (lead_some w a l)
         let all : c ∷ u ≡ e ∷ b = same ∙ ap (λ (z : List Token). z ++ e ∷ b) nil in
         let is : e ≡ c = cc in
         let begun = typed_heads w d e b m in
-        or_second (begins_lead c) (begins_type c) (subst (λ (x : Token). begins_type x ≡ true) is begun)
+        or_right (begins_lead c) (begins_type c) (subst (λ (x : Token). begins_type x ≡ true) is begun)
     by_lead a b same (inr (x, (e, one, s))) m =
         let all : c ∷ u ≡ e ∷ b = same ∙ ap (λ (z : List Token). z ++ b) one in
         let is : e ≡ c = cc in
