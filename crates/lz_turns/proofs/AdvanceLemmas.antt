@@ -45,17 +45,17 @@ inside_so calls c e part stage is came not_done s = by came not_done
 
     by : (came : Came) → value_if_done came ≡ None → Alike (behind calls part came and_then λ w. stage_trace calls e stage w) s (behind calls e (inside stage came)) s
     by (settles v) h = absurd cc
-    by (acts action line point) h = alike_alike (alike_assoc _ _ _ s) (alike_behind fronts_updates (λ v t. there point 0 t) s)
-    by (reads cell line point) h = alike_alike (alike_assoc _ _ _ s) (alike_behind (fronts_chooses (λ v. fronts_updates)) (λ v t. there point v t) s)
-    by (asks line kind point) h = alike_alike (alike_assoc _ _ _ s) (alike_behind (fronts_chooses (λ v. fronts_updates)) (λ v t. there point v t) s)
-    by (signals cond line point) h = alike_alike (alike_assoc _ _ _ s) (alike_behind (fronts_chooses (λ v. fronts_updates)) (λ v t. there point v t) s)
+    by (acts action line point) h = alike_alike alike_assoc (alike_behind fronts_updates (λ v t. there point 0 t) s)
+    by (reads cell line point) h = alike_alike alike_assoc (alike_behind (fronts_chooses (λ v. fronts_updates)) (λ v t. there point v t) s)
+    by (asks line kind point) h = alike_alike alike_assoc (alike_behind (fronts_chooses (λ v. fronts_updates)) (λ v t. there point v t) s)
+    by (signals cond line point) h = alike_alike alike_assoc (alike_behind (fronts_chooses (λ v. fronts_updates)) (λ v t. there point v t) s)
     by (creates routine value line point) h =
-        alike_alike (alike_chooses _ _ _ s) (alike_choice IsAny (λ d. alike_alike (alike_assoc _ _ _ s) (alike_behind fronts_updates (λ v t. there point d t) s)))
-    by (calls_on function kinds values point) h = alike_alike (alike_assoc _ _ _ s) (alike_behind (fronts_frame (c.fronts function)) (λ v t. there point v t) s)
-    by (fails kind line) h = alike_alike (alike_assoc _ _ _ s) (alike_behind fronts_updates (λ v t. alike_halts _ t) s)
-    by (refuses line) h = alike_alike (alike_assoc _ _ _ s) (alike_behind fronts_updates (λ v t. alike_halts _ t) s)
+        alike_alike (alike_chooses _ _ _ s) (alike_choice IsAny (λ d. alike_alike alike_assoc (alike_behind fronts_updates (λ v t. there point d t) s)))
+    by (calls_on function kinds values point) h = alike_alike alike_assoc (alike_behind (fronts_frame (c.fronts function)) (λ v t. there point v t) s)
+    by (fails kind line) h = alike_alike alike_assoc (alike_behind fronts_updates (λ v t. alike_halts) s)
+    by (refuses line) h = alike_alike alike_assoc (alike_behind fronts_updates (λ v t. alike_halts) s)
     by quits h = alike_leaves _ _ s
-    by stops h = alike_halts _ s
+    by stops h = alike_halts
 
 done_is : (came : Came) (v : ℕ) → value_if_done came ≡ Some v → came ≡ settles v
 done_is (settles w) v h = let same : w ≡ v = cc in ap settles same
@@ -81,8 +81,8 @@ part_done e stage point given v before middle came (Some a) is part h p n depth 
     let calls = calls_within p n depth in
     alike_alike (alike_back (part_is (part_of e (slot_of stage)) a (λ x. resumed calls x point given and_then λ w. stage_trace calls e stage w) is before))
     (alike_alike (alike_then (part.same p n depth) (λ w. stage_trace calls e stage w))
-    (alike_alike (subst (λ (x : Came). Alike (behind calls a x and_then λ w. stage_trace calls e stage w) middle (ends_with v and_then λ w. stage_trace calls e stage w) middle) (sym (done_is came v h)) (alike_same _ middle))
-    (alike_value v _ middle)))
+    (alike_alike (subst (λ (x : Came). Alike (behind calls a x and_then λ w. stage_trace calls e stage w) middle (ends_with v and_then λ w. stage_trace calls e stage w) middle) (sym (done_is came v h)) alike_same)
+    alike_value))
 
 -- a part that is not done
 part_waits : (e : ScopedExpression) (stage : Stage) (point : Point) (given : ℕ) (before middle : Locals) (came : Came) (o : Option ScopedExpression)
@@ -238,7 +238,7 @@ again_down e stage next w turned is down = subst (λ (x : Turned). GoesDown (cou
 -- ---- turn by turn
 
 pub turns_first : (e : ScopedExpression) (stage : Stage) (v : ℕ) (before : Locals) → Turns e stage v before (again stage v) before
-turns_first e stage v before = record { same = λ p n depth. alike_same _ before; near = omega arith }
+turns_first e stage v before = record { same = λ p n depth. alike_same; near = omega arith }
 
 turns_turns : (e : ScopedExpression) (stage now : Stage) (v w : ℕ) (before middle after : Locals) (turned : Turned) → Turns e stage v before (again now w) middle → Turns e now w middle turned after → Turns e stage v before turned after
 turns_turns e stage now v w before middle after turned one two =

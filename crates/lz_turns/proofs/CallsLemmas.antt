@@ -38,19 +38,19 @@ rest_some (and x rest) (suc k) a e = rest_some rest k a e
 -- ---- code that is known by an equation
 
 is_same : {P Q : Behaviour Locals ℕ} → P ≡ Q → (s : Locals) → Alike P s Q s
-is_same {P} e s = subst (λ (X : Behaviour Locals ℕ). Alike P s X s) e (alike_same P s)
+is_same {P} e s = subst (λ (X : Behaviour Locals ℕ). Alike P s X s) e alike_same
 
 -- a part that is there
 pub part_is : (o : Option ScopedExpression) (a : ScopedExpression) (code : ScopedExpression → Behaviour Locals ℕ) → o ≡ Some a → (s : Locals) → Alike (code a) s (with_part o code) s
-part_is o a code e s = subst (λ (x : Option ScopedExpression). Alike (code a) s (with_part x code) s) (sym e) (alike_same (code a) s)
+part_is o a code e s = subst (λ (x : Option ScopedExpression). Alike (code a) s (with_part x code) s) (sym e) alike_same
 
 does_ends : (line : ℕ) (action : Action) (v : ℕ) (s : Locals) → Alike (does line action v) s (does line action zero and_then λ _. ends_with v) s
 does_ends line action v s = alike_alike (alike_ends fronts_updates s) (alike_renamed _ v zero ends_with s)
 
 -- Loc for each parameter is not seen
 locs_quiet : (line : ℕ) (xs : List ℕ) (rest : Behaviour Locals ℕ) (s : Locals) → Alike (locs line xs and_then λ _. rest) s rest s
-locs_quiet line [] rest s = alike_value _ _ s
-locs_quiet line (x ∷ xs) rest s = alike_alike (alike_assoc _ _ _ s) (alike_alike (alike_loc line stays zero _ s) (locs_quiet line xs rest s))
+locs_quiet line [] rest s = alike_value
+locs_quiet line (x ∷ xs) rest s = alike_alike alike_assoc (alike_alike (alike_loc line stays zero _ s) (locs_quiet line xs rest s))
 
 -- one more argument
 one_more : (values : List ℕ) (v : ℕ) (vs : List ℕ) → values ++ v ∷ vs ≡ (values ++ v ∷ []) ++ vs
@@ -68,13 +68,13 @@ module _ (calls : Calls) (c : FrontCalls calls) (e : ScopedExpression) where
   callings_at line function values is None at s =
       let args = arguments_of e in
       alike_alike (is_same (ap (λ (r : ScopedExpressions). calling_from calls line function args r values) (rest_none args (length values) at)) s)
-      (alike_alike (alike_value _ _ s)
+      (alike_alike alike_value
       (alike_alike (is_same (ap (λ (vs : List ℕ). calls_with calls line function args vs) (append-nil values)) s)
       (alike_alike (locs_quiet line values _ s) (alike_ends (fronts_frame (c.fronts function)) s))))
   callings_at line function values is (Some a) at s =
       let args = arguments_of e in
       alike_alike (is_same (ap (λ (r : ScopedExpressions). calling_from calls line function args r values) (rest_some args (length values) a at)) s)
-      (alike_alike (alike_assoc _ _ _ s)
+      (alike_alike alike_assoc
       (alike_alike (alike_behind (fronts_expression calls c a) (λ v t. alike_alike (alike_given _ (λ (vs : List ℕ). v ∷ vs) _ t) (is_same (later v) t)) s)
       (part_is (argument_at args (length values)) a (λ part. expression_trace calls part and_then λ w. calling_trace calls (called e) args (values ++ w ∷ [])) at s)))
     where
@@ -88,13 +88,13 @@ module _ (calls : Calls) (c : FrontCalls calls) (e : ScopedExpression) where
 
   pub callings : (d : Called) → called e ≡ d → (values : List ℕ) (s : Locals) → Alike (calling_trace calls d (arguments_of e) values) s (moved calls e (calling_move d (arguments_of e) values)) s
   callings (function_called line function) is values s = callings_at line function values is (argument_at (arguments_of e) (length values)) refl s
-  callings (known_called line name) is values s = alike_same _ s
-  callings not_called is values s = alike_same _ s
+  callings (known_called line name) is values s = alike_same
+  callings not_called is values s = alike_same
 
   pub argument_behind : (d : Called) → called e ≡ d → (values : List ℕ) (v : ℕ) (s : Locals) → Alike (calling_trace calls d (arguments_of e) (values ++ v ∷ [])) s (moved calls e (argument_move d values v)) s
   argument_behind (function_called line function) is values v s = is_same (ap (λ (d : Called). calling_trace calls d (arguments_of e) (values ++ v ∷ [])) (sym is)) s
-  argument_behind (known_called line name) is values v s = alike_same _ s
-  argument_behind not_called is values v s = alike_same _ s
+  argument_behind (known_called line name) is values v s = alike_same
+  argument_behind not_called is values v s = alike_same
 
   -- ---- objects that are handed to a known name
 
@@ -108,7 +108,7 @@ module _ (calls : Calls) (c : FrontCalls calls) (e : ScopedExpression) where
       and_then λ os. arguing_from calls line name (arguments_of e) (objects ++ os) []) s
       (index_trace calls index and_then λ i. checks_index place meant index checked i and_then λ _. passing_trace calls (called e) (arguments_of e) (objects ++ (first_of meant + i) ∷ []) (suc k)) s
   target_passes line name is objects k place meant index checked s =
-      alike_alike (alike_assoc _ _ _ s) (alike_alike (alike_given _ (λ (i : ℕ). first_of meant + i) _ s)
+      alike_alike alike_assoc (alike_alike (alike_given _ (λ (i : ℕ). first_of meant + i) _ s)
       (place_begins calls c place meant index checked _ _ (λ i t. alike_alike (alike_given _ (λ (os : List ℕ). (first_of meant + i) ∷ os) _ t) (is_same (later i) t)) s))
     where
       later : (i : ℕ) → (objects_trace calls (rest_from (arguments_of e) (suc k)) and_then λ os. arguing_from calls line name (arguments_of e) (objects ++ (first_of meant + i) ∷ os) [])
@@ -139,7 +139,7 @@ module _ (calls : Calls) (c : FrontCalls calls) (e : ScopedExpression) where
       → Alike (index_trace calls index and_then λ i. checks_index place meant index checked i and_then λ _. passing_trace calls (called e) (arguments_of e) (objects ++ (first_of meant + i) ∷ []) (suc k)) s
       (moved calls e (handed_index index objects k)) s
   index_passes line name is a objects k place meant whole checked at same inner s =
-      alike_alike (alike_value _ _ s) (is_same (waits line name is a objects k place meant whole checked at same 0) s)
+      alike_alike alike_value (is_same (waits line name is a objects k place meant whole checked at same 0) s)
   index_passes line name is a objects k place meant (element index) checked at same inner s =
       alike_alike (alike_behind (fronts_expression calls c index) (λ v t. is_same (waits line name is a objects k place meant (element index) checked at same v) t) s)
       (part_is (part_of e (handed_slot k)) index (λ part. expression_trace calls part and_then λ w. stage_trace calls e (handed objects k) w) (ap index_of_argument at ∙ inner) s)
@@ -149,7 +149,7 @@ module _ (calls : Calls) (c : FrontCalls calls) (e : ScopedExpression) where
   passings_at line name objects k is None at s =
       let args = arguments_of e in
       alike_alike (is_same (ap (λ (r : ScopedExpressions). passing_from calls line name args r objects) (rest_none args k at)) s)
-      (alike_alike (alike_value _ _ s) (is_same (λ i. arguing_trace calls (sym is i) args (append-nil objects i) [] 0) s))
+      (alike_alike alike_value (is_same (λ i. arguing_trace calls (sym is i) args (append-nil objects i) [] 0) s))
   passings_at line name objects k is (Some a) at s =
       alike_alike (is_same (ap (λ (r : ScopedExpressions). passing_from calls line name (arguments_of e) r objects) (rest_some (arguments_of e) k a at)) s) (by_argument a at s)
     where
@@ -181,8 +181,8 @@ module _ (calls : Calls) (c : FrontCalls calls) (e : ScopedExpression) where
 
   pub passings : (d : Called) → called e ≡ d → (objects : List ℕ) (k : ℕ) (s : Locals) → Alike (passing_trace calls d (arguments_of e) objects k) s (moved calls e (passing_move d (arguments_of e) objects k)) s
   passings (known_called line name) is objects k s = passings_at line name objects k is (argument_at (arguments_of e) k) refl s
-  passings (function_called line function) is objects k s = alike_same _ s
-  passings not_called is objects k s = alike_same _ s
+  passings (function_called line function) is objects k s = alike_same
+  passings not_called is objects k s = alike_same
 
   handed_checks : (d : Called) → called e ≡ d → (of : Lvalue) (objects : List ℕ) (k v : ℕ) (s : Locals)
       → Alike (handed_place calls d (arguments_of e) of objects k v) s (moved calls e (index_move of v (passing (objects ++ element_at of v ∷ []) (suc k)))) s
@@ -192,39 +192,39 @@ module _ (calls : Calls) (c : FrontCalls calls) (e : ScopedExpression) where
 
   handed_at : (d : Called) → called e ≡ d → (a : ScopedExpression) (objects : List ℕ) (k v : ℕ) (s : Locals)
       → Alike (handed_expression calls d (arguments_of e) a objects k v) s (moved calls e (handed_one a objects k v)) s
-  handed_at d is (constant line value form kind) objects k v s = alike_same _ s
-  handed_at d is (null line kind) objects k v s = alike_same _ s
-  handed_at d is (text line kind) objects k v s = alike_same _ s
+  handed_at d is (constant line value form kind) objects k v s = alike_same
+  handed_at d is (null line kind) objects k v s = alike_same
+  handed_at d is (text line kind) objects k v s = alike_same
   handed_at d is (object of kind) objects k v s = handed_checks d is of objects k v s
   handed_at d is (address line of kind) objects k v s = handed_checks d is of objects k v s
-  handed_at d is (paren line inner kind) objects k v s = alike_same _ s
-  handed_at d is (unary line op of kind) objects k v s = alike_same _ s
-  handed_at d is (cast line to of kind) objects k v s = alike_same _ s
-  handed_at d is (binary line op left right kind) objects k v s = alike_same _ s
-  handed_at d is (choose line test one two kind) objects k v s = alike_same _ s
-  handed_at d is (step line of up prefix kind) objects k v s = alike_same _ s
-  handed_at d is (call line callee row kind) objects k v s = alike_same _ s
-  handed_at d is (assign line op to value kind) objects k v s = alike_same _ s
+  handed_at d is (paren line inner kind) objects k v s = alike_same
+  handed_at d is (unary line op of kind) objects k v s = alike_same
+  handed_at d is (cast line to of kind) objects k v s = alike_same
+  handed_at d is (binary line op left right kind) objects k v s = alike_same
+  handed_at d is (choose line test one two kind) objects k v s = alike_same
+  handed_at d is (step line of up prefix kind) objects k v s = alike_same
+  handed_at d is (call line callee row kind) objects k v s = alike_same
+  handed_at d is (assign line op to value kind) objects k v s = alike_same
 
   handed_option : (d : Called) → called e ≡ d → (o : Option ScopedExpression) (objects : List ℕ) (k v : ℕ) (s : Locals)
       → Alike (handed_known calls d (arguments_of e) o objects k v) s (moved calls e (handed_so o objects k v)) s
-  handed_option d is None objects k v s = alike_same _ s
+  handed_option d is None objects k v s = alike_same
   handed_option d is (Some a) objects k v s = handed_at d is a objects k v s
 
   pub handed_behind : (d : Called) → called e ≡ d → (objects : List ℕ) (k v : ℕ) (s : Locals)
       → Alike (handed_trace_of calls d (arguments_of e) (argument_at (arguments_of e) k) objects k v) s (moved calls e (handed_move d (arguments_of e) objects k v)) s
   handed_behind (known_called line name) is objects k v s = handed_option (known_called line name) is (argument_at (arguments_of e) k) objects k v s
-  handed_behind (function_called line function) is objects k v s = alike_same _ s
-  handed_behind not_called is objects k v s = alike_same _ s
+  handed_behind (function_called line function) is objects k v s = alike_same
+  handed_behind not_called is objects k v s = alike_same
 
   -- ---- known names
 
   check_ends : (line value : ℕ) (kind : BreakKind) (s : Locals) → Alike (checks line value kind) s (moved calls e (check_move line value kind (settled 0))) s
-  check_ends line zero kind s = alike_same _ s
+  check_ends line zero kind s = alike_same
   check_ends line (suc value) kind s = does_ends line (Check (suc value) kind) zero s
 
   assume_ends : (line value : ℕ) (s : Locals) → Alike (assumes line value) s (moved calls e (assume_move line value (settled 0))) s
-  assume_ends line zero s = alike_same _ s
+  assume_ends line zero s = alike_same
   assume_ends line (suc value) s = does_ends line (Assume (suc value)) zero s
 
   knowns : (line : ℕ) (name : KnownName) → called e ≡ known_called line name → (objects values : List ℕ) (s : Locals)
@@ -233,26 +233,26 @@ module _ (calls : Calls) (c : FrontCalls calls) (e : ScopedExpression) where
   knowns line known.Assume is objects values s = assume_ends line (slice_index values 0) s
   knowns line known.NondetInt is objects values s = alike_ends (fronts_chooses (λ v. fronts_updates)) s
   knowns line known.NondetUint is objects values s = alike_ends (fronts_chooses (λ v. fronts_updates)) s
-  knowns line known.Error is objects values s = alike_same _ s
-  knowns line known.ReachError is objects values s = alike_same _ s
-  knowns line known.Abort is objects values s = alike_same _ s
+  knowns line known.Error is objects values s = alike_same
+  knowns line known.ReachError is objects values s = alike_same
+  knowns line known.Abort is objects values s = alike_same
   knowns line known.AtomicBegin is objects values s = does_ends line _ 0 s
   knowns line known.AtomicEnd is objects values s = does_ends line _ 0 s
   knowns line known.Create is objects values s =
       alike_choice IsAny (λ d. alike_behind fronts_updates (λ v t. is_same (ap (λ (x : Called). made_trace x (slice_index objects 0) d) (sym is)) t) s)
   knowns line known.Join is objects values s = alike_alike (alike_tells line _ _ s) (does_ends line _ 0 s)
-  knowns line known.Exit is objects values s = alike_same _ s
+  knowns line known.Exit is objects values s = alike_same
   knowns line known.MutexInit is objects values s = does_ends line _ 0 s
-  knowns line known.MutexDestroy is objects values s = alike_same _ s
+  knowns line known.MutexDestroy is objects values s = alike_same
   knowns line known.MutexLock is objects values s = does_ends line _ 0 s
   knowns line known.MutexUnlock is objects values s = does_ends line _ 0 s
-  knowns line known.CondInit is objects values s = alike_same _ s
-  knowns line known.CondDestroy is objects values s = alike_same _ s
+  knowns line known.CondInit is objects values s = alike_same
+  knowns line known.CondDestroy is objects values s = alike_same
   knowns line known.CondWait is objects values s =
       alike_behind fronts_updates (λ v t. is_same (ap (λ (x : Called). woken_trace x (slice_index objects 0) (slice_index objects 1)) (sym is)) t) s
   knowns line known.CondSignal is objects values s = alike_ends (fronts_chooses (λ v. fronts_updates)) s
   knowns line known.CondBroadcast is objects values s = does_ends line _ 0 s
-  knowns line known.Printf is objects values s = alike_same _ s
+  knowns line known.Printf is objects values s = alike_same
 
   -- ---- values that are handed to a known name
 
@@ -261,7 +261,7 @@ module _ (calls : Calls) (c : FrontCalls calls) (e : ScopedExpression) where
   arguings_at line name objects values k is None at s =
       let args = arguments_of e in
       alike_alike (is_same (ap (λ (r : ScopedExpressions). arguing_from calls line name r objects values) (rest_none args k at)) s)
-      (alike_alike (alike_value _ _ s) (alike_alike (is_same (ap (λ (vs : List ℕ). known_trace line name objects vs) (append-nil values)) s) (knowns line name is objects values s)))
+      (alike_alike alike_value (alike_alike (is_same (ap (λ (vs : List ℕ). known_trace line name objects vs) (append-nil values)) s) (knowns line name is objects values s)))
   arguings_at line name objects values k is (Some a) at s =
       alike_alike (is_same (ap (λ (r : ScopedExpressions). arguing_from calls line name r objects values) (rest_some (arguments_of e) k a at)) s) (by_kind (is_object_argument a))
     where
@@ -280,45 +280,45 @@ module _ (calls : Calls) (c : FrontCalls calls) (e : ScopedExpression) where
           and_then λ vs. known_trace line name objects (values ++ vs)) s (moved calls e (value_so b objects values k)) s
       by_kind true = is_same (ap (λ (d : Called). arguing_trace calls d (arguments_of e) objects values (suc k)) (sym is)) s
       by_kind false =
-          alike_alike (alike_assoc _ _ _ s)
+          alike_alike alike_assoc
           (alike_alike (alike_behind (fronts_expression calls c a) (λ v t. alike_alike (alike_given _ (λ (vs : List ℕ). v ∷ vs) _ t) (is_same (later v) t)) s)
           (part_is (argument_at (arguments_of e) k) a (λ part. expression_trace calls part and_then λ w. stage_trace calls e (argued objects values k) w) at s))
 
   pub arguings : (d : Called) → called e ≡ d → (objects values : List ℕ) (k : ℕ) (s : Locals)
       → Alike (arguing_trace calls d (arguments_of e) objects values k) s (moved calls e (arguing_move d (arguments_of e) objects values k s)) s
   arguings (known_called line name) is objects values k s = arguings_at line name objects values k is (argument_at (arguments_of e) k) refl s
-  arguings (function_called line function) is objects values k s = alike_same _ s
-  arguings not_called is objects values k s = alike_same _ s
+  arguings (function_called line function) is objects values k s = alike_same
+  arguings not_called is objects values k s = alike_same
 
   argued_option : (d : Called) → called e ≡ d → (o : Option ScopedExpression) (objects values : List ℕ) (k v : ℕ) (s : Locals)
       → Alike (argued_known calls d (arguments_of e) o objects values k v) s (moved calls e (argued_so o objects values k v)) s
-  argued_option d is None objects values k v s = alike_same _ s
+  argued_option d is None objects values k v s = alike_same
   argued_option d is (Some a) objects values k v s = is_same (ap (λ (x : Called). arguing_trace calls x (arguments_of e) objects (values ++ v ∷ []) (suc k)) (sym is)) s
 
   pub argued_behind : (d : Called) → called e ≡ d → (objects values : List ℕ) (k v : ℕ) (s : Locals)
       → Alike (argued_trace calls d (arguments_of e) (argument_at (arguments_of e) k) objects values k v) s (moved calls e (argued_move d (arguments_of e) objects values k v)) s
   argued_behind (known_called line name) is objects values k v s = argued_option (known_called line name) is (argument_at (arguments_of e) k) objects values k v s
-  argued_behind (function_called line function) is objects values k v s = alike_same _ s
-  argued_behind not_called is objects values k v s = alike_same _ s
+  argued_behind (function_called line function) is objects values k v s = alike_same
+  argued_behind not_called is objects values k v s = alike_same
 
   pub wokens : (d : Called) (cond mutex : ℕ) (s : Locals) → Alike (woken_trace d cond mutex) s (moved calls e (woken_move d cond mutex)) s
   wokens (known_called line name) cond mutex s = does_ends line (Wake cond mutex) 0 s
-  wokens (function_called line function) cond mutex s = alike_same _ s
-  wokens not_called cond mutex s = alike_same _ s
+  wokens (function_called line function) cond mutex s = alike_same
+  wokens not_called cond mutex s = alike_same
 
   pub mades : (d : Called) (handle v : ℕ) (s : Locals) → Alike (made_trace d handle v) s (moved calls e (made_move d)) (made_locals d handle v s)
   mades (known_called line name) handle v s = alike_alike (alike_ends fronts_updates s) (alike_loc line (set_handle handle v) 0 ends_with s)
-  mades (function_called line function) handle v s = alike_same _ s
-  mades not_called handle v s = alike_same _ s
+  mades (function_called line function) handle v s = alike_same
+  mades not_called handle v s = alike_same
 
 -- ---- the start of a call
 
 pub call_starts : (calls : Calls) (line : ℕ) (callee : Object) (args : ScopedExpressions) (kind : Option IntType) (s : Locals)
     → let e = call line callee args kind in Alike (expression_trace calls e) s (moved calls e (begin_move e)) s
-call_starts calls line (Local f len m) args kind s = alike_same _ s
-call_starts calls line (Cell f len m) args kind s = alike_same _ s
-call_starts calls line (Mutex f len) args kind s = alike_same _ s
-call_starts calls line (Cond f len) args kind s = alike_same _ s
-call_starts calls line (Handle f len) args kind s = alike_same _ s
-call_starts calls line (Routine f) args kind s = alike_same _ s
-call_starts calls line (Known n) args kind s = alike_same _ s
+call_starts calls line (Local f len m) args kind s = alike_same
+call_starts calls line (Cell f len m) args kind s = alike_same
+call_starts calls line (Mutex f len) args kind s = alike_same
+call_starts calls line (Cond f len) args kind s = alike_same
+call_starts calls line (Handle f len) args kind s = alike_same
+call_starts calls line (Routine f) args kind s = alike_same
+call_starts calls line (Known n) args kind s = alike_same

@@ -16,8 +16,8 @@ module _ {S A : Type 0} where
   found full outcome h = inl (record { full = full; does = h; seen = refl })
 
   -- the same code from the same local values
-  pub alike_same : (code : Behaviour S A) (before : S) → Alike code before code before
-  alike_same code before = record { there = record { leads = λ full o h. found full o h }; back = record { leads = λ full o h. found full o h } }
+  pub alike_same : {code : Behaviour S A} {before : S} → Alike code before code before
+  alike_same = record { there = record { leads = λ full o h. found full o h }; back = record { leads = λ full o h. found full o h } }
 
   pub alike_back : {one two : Behaviour S A} {before after : S} → Alike one before two after → Alike two after one before
   alike_back a = record { there = a.back; back = a.there }
@@ -34,7 +34,7 @@ module _ {S A : Type 0} where
 
   -- the same code, known by an equation
   pub alike_is : (P : ℕ → Behaviour S A) (a b : ℕ) (before : S) → a ≡ b → Alike (P a) before (P b) before
-  alike_is P a b before e = subst (λ (x : ℕ). Alike (P a) before (P x) before) e (alike_same (P a) before)
+  alike_is P a b before e = subst (λ (x : ℕ). Alike (P a) before (P x) before) e alike_same
 
 module _ {S A B : Type 0} where
   goes_in : {one two : Behaviour S A} {before after : S} → Follows one before two after → (next : A → Behaviour S B) (full : List Act) (o : Outcome S B)
@@ -101,8 +101,8 @@ module _ {S A B : Type 0} where
   alike_behind fronts a before = record { there = follows_behind fronts (λ v s. (a v s).there) before; back = follows_behind fronts (λ v s. (a v s).back) before }
 
   -- a value and no action
-  pub alike_value : (value : A) (next : A → Behaviour S B) (before : S) → Alike (ends_with value and_then next) before (next value) before
-  alike_value value next before = record { there = record { leads = of }; back = record { leads = λ full o h. inl (record { full = full; does = up full o h; seen = refl }) } }
+  pub alike_value : {value : A} {next : A → Behaviour S B} {before : S} → Alike (ends_with value and_then next) before (next value) before
+  alike_value {value} {next} {before} = record { there = record { leads = of }; back = record { leads = λ full o h. inl (record { full = full; does = up full o h; seen = refl }) } }
     where
       goes_on : (full : List Act) (o : Outcome S B) → GoesOn (ends_with value) next before full o → Seen (next value) before (without_loc full) o
       goes_on full o g =
@@ -126,8 +126,8 @@ module _ {S A B : Type 0} where
       up full cut h = record { is = inr (joins full cut h) }
 
   -- nothing more, whatever would follow
-  pub alike_halts : (next : A → Behaviour S B) (before : S) → Alike (halts and_then next) before halts before
-  alike_halts next before = record { there = record { leads = of }; back = record { leads = back } }
+  pub alike_halts : {next : A → Behaviour S B} {before : S} → Alike (halts and_then next) before halts before
+  alike_halts {next} {before} = record { there = record { leads = of }; back = record { leads = back } }
     where
       of : (full : List Act) (o : Outcome S B) → (halts and_then next) before full o → Seen halts before (without_loc full) o
       of full (done t v) h = absurd h.is.starts.is
@@ -288,8 +288,8 @@ module _ {S A : Type 0} where
 
 module _ {S A B C : Type 0} where
   -- three parts
-  pub alike_assoc : (one : Behaviour S A) (two : A → Behaviour S B) (three : B → Behaviour S C) (before : S) → Alike ((one and_then two) and_then three) before (one and_then λ v. two v and_then three) before
-  alike_assoc one two three before = record { there = record { leads = λ full o h. found full o (of full o h) }; back = record { leads = λ full o h. found full o (up full o h) } }
+  pub alike_assoc : {one : Behaviour S A} {two : A → Behaviour S B} {three : B → Behaviour S C} {before : S} → Alike ((one and_then two) and_then three) before (one and_then λ v. two v and_then three) before
+  alike_assoc {one} {two} {three} {before} = record { there = record { leads = λ full o h. found full o (of full o h) }; back = record { leads = λ full o h. found full o (up full o h) } }
     where
       inner : (full : List Act) (o : Outcome S C) → ((v : A) (s : S) (rest : List Act) → GoesOn (two v) three s rest o → (two v and_then three) s rest o) → GoesOn (one and_then two) three before full o → GoesOn one (λ v. two v and_then three) before full o
       inner full o close g =

@@ -42,35 +42,35 @@ fronts_write line (Known name) e v = fronts_halts
 -- ---- an element, by its number
 
 pub read_same : (line : ℕ) (meant : Object) (i : ℕ) (s : Locals) → Alike (read_at line meant i) s (read_element line meant (first_of meant + i)) s
-read_same line (Local f len kind) i s = alike_same _ s
-read_same line (Cell f len kind) i s = alike_same _ s
-read_same line (Mutex f len) i s = alike_same _ s
-read_same line (Cond f len) i s = alike_same _ s
-read_same line (Handle f len) i s = alike_same _ s
-read_same line (Routine function) i s = alike_same _ s
-read_same line (Known name) i s = alike_same _ s
+read_same line (Local f len kind) i s = alike_same
+read_same line (Cell f len kind) i s = alike_same
+read_same line (Mutex f len) i s = alike_same
+read_same line (Cond f len) i s = alike_same
+read_same line (Handle f len) i s = alike_same
+read_same line (Routine function) i s = alike_same
+read_same line (Known name) i s = alike_same
 
 pub write_same : (line : ℕ) (meant : Object) (i v : ℕ) (s : Locals) → Alike (write_at line meant i v) s (write_element line meant (first_of meant + i) v) s
-write_same line (Local f len kind) i v s = alike_same _ s
-write_same line (Cell f len kind) i v s = alike_same _ s
-write_same line (Mutex f len) i v s = alike_same _ s
-write_same line (Cond f len) i v s = alike_same _ s
-write_same line (Handle f len) i v s = alike_same _ s
-write_same line (Routine function) i v s = alike_same _ s
-write_same line (Known name) i v s = alike_same _ s
+write_same line (Local f len kind) i v s = alike_same
+write_same line (Cell f len kind) i v s = alike_same
+write_same line (Mutex f len) i v s = alike_same
+write_same line (Cond f len) i v s = alike_same
+write_same line (Handle f len) i v s = alike_same
+write_same line (Routine function) i v s = alike_same
+write_same line (Known name) i v s = alike_same
 
 -- ---- single steps, and what is left behind them
 
 module _ (calls : Calls) (e : ScopedExpression) (stage : Stage) where
   check_moves : (line value : ℕ) (kind : BreakKind) (rest : Behaviour Locals ℕ) → ((s : Locals) → Alike rest s (stage_trace calls e stage 0) s) → (s : Locals)
       → Alike (checks line value kind and_then λ _. rest) s (moved calls e (check_move line value kind stage)) s
-  check_moves line zero kind rest same s = alike_alike (alike_assoc _ _ _ s) (alike_behind fronts_updates (λ v t. alike_halts _ t) s)
+  check_moves line zero kind rest same s = alike_alike alike_assoc (alike_behind fronts_updates (λ v t. alike_halts) s)
   check_moves line (suc value) kind rest same s = alike_behind fronts_updates (λ v t. same t) s
 
   need_moves : (fits : Bool) (rest : Behaviour Locals ℕ) → ((s : Locals) → Alike rest s (stage_trace calls e stage 0) s) → (s : Locals)
       → Alike (needs fits and_then λ _. rest) s (moved calls e (need_move fits stage)) s
-  need_moves true rest same s = alike_alike (alike_value _ _ s) (same s)
-  need_moves false rest same s = alike_halts _ s
+  need_moves true rest same s = alike_alike alike_value (same s)
+  need_moves false rest same s = alike_halts
 
   bound_moves : (line : ℕ) (checked fits : Bool) (rest : Behaviour Locals ℕ) → ((s : Locals) → Alike rest s (stage_trace calls e stage 0) s) → (s : Locals)
       → Alike (bounds line checked fits and_then λ _. rest) s (moved calls e (bound_move line checked fits stage)) s
@@ -85,32 +85,32 @@ module _ (calls : Calls) (e : ScopedExpression) (stage : Stage) where
   pub divide_moves : (divides : Bool) (line divisor : ℕ) (rest : Behaviour Locals ℕ) → ((s : Locals) → Alike rest s (stage_trace calls e stage 0) s) → (s : Locals)
       → Alike (picks divides (checks line divisor kinds.DivZero) (ends_with zero) and_then λ _. rest) s (moved calls e (divide_move divides line divisor stage)) s
   divide_moves true line divisor rest same s = check_moves line divisor kinds.DivZero rest same s
-  divide_moves false line divisor rest same s = alike_alike (alike_value _ _ s) (same s)
+  divide_moves false line divisor rest same s = alike_alike alike_value (same s)
 
   pub read_moves : (line : ℕ) (meant : Object) (k : ℕ) (rest : ℕ → Behaviour Locals ℕ) → ((v : ℕ) (s : Locals) → Alike (rest v) s (stage_trace calls e stage v) s) → (s : Locals)
       → Alike (read_element line meant k and_then rest) s (moved calls e (read_move meant line k stage s)) s
   read_moves line (Local f len kind) k rest same s = alike_alike (alike_tells line _ rest s) (same _ s)
   read_moves line (Cell f len kind) k rest same s = alike_behind (fronts_chooses (λ v. fronts_updates)) same s
-  read_moves line (Mutex f len) k rest same s = alike_halts _ s
-  read_moves line (Cond f len) k rest same s = alike_halts _ s
+  read_moves line (Mutex f len) k rest same s = alike_halts
+  read_moves line (Cond f len) k rest same s = alike_halts
   read_moves line (Handle f len) k rest same s = alike_alike (alike_tells line _ rest s) (same _ s)
-  read_moves line (Routine function) k rest same s = alike_alike (alike_value _ _ s) (same _ s)
-  read_moves line (Known name) k rest same s = alike_halts _ s
+  read_moves line (Routine function) k rest same s = alike_alike alike_value (same _ s)
+  read_moves line (Known name) k rest same s = alike_halts
 
   pub write_moves : (line : ℕ) (meant : Object) (k w : ℕ) (rest : ℕ → Behaviour Locals ℕ) → ((s : Locals) → Alike (rest w) s (stage_trace calls e stage 0) s) → (s : Locals)
       → Alike (write_element line meant k w and_then rest) s (moved calls e (write_move meant line k w stage)) (written meant k w s)
   write_moves line (Local f len kind) k w rest same s = alike_alike (alike_loc line (set_local k w) w rest s) (same _)
   write_moves line (Cell f len kind) k w rest same s = alike_alike (alike_renamed _ w zero rest s) (alike_behind fronts_updates (λ v t. same t) s)
-  write_moves line (Mutex f len) k w rest same s = alike_halts _ s
-  write_moves line (Cond f len) k w rest same s = alike_halts _ s
-  write_moves line (Handle f len) k w rest same s = alike_halts _ s
-  write_moves line (Routine function) k w rest same s = alike_halts _ s
-  write_moves line (Known name) k w rest same s = alike_halts _ s
+  write_moves line (Mutex f len) k w rest same s = alike_halts
+  write_moves line (Cond f len) k w rest same s = alike_halts
+  write_moves line (Handle f len) k w rest same s = alike_halts
+  write_moves line (Routine function) k w rest same s = alike_halts
+  write_moves line (Known name) k w rest same s = alike_halts
 
 -- the index of an object and its check, before what follows
 pub place_begins : (calls : Calls) → FrontCalls calls → (line : ℕ) (meant : Object) (index : ScopedIndex) (checked : Bool) (next rest : ℕ → Behaviour Locals ℕ)
     → ((i : ℕ) (s : Locals) → Alike (next i) s (rest i) s) → (s : Locals)
     → Alike (place_trace calls (lvalue line meant index checked) and_then next) s (index_trace calls index and_then λ i. checks_index line meant index checked i and_then λ _. rest i) s
 place_begins calls c line meant index checked next rest same s =
-    alike_alike (alike_assoc _ _ _ s) (alike_behind (fronts_index calls c index) (λ i t.
+    alike_alike alike_assoc (alike_behind (fronts_index calls c index) (λ i t.
     alike_alike (alike_given _ (λ _. i) next t) (alike_behind (fronts_checks_index line meant index checked i) (λ v u. same i u) t)) s)
