@@ -42,13 +42,13 @@ halted s t = record { there = record { leads = of }; back = record { leads = of2
     of2 full cut h = inr (ap without_loc h.is, refl)
 
 value_is : (o : Option ScopedExpression) (e : ScopedExpression) (code : ScopedExpression → Behaviour Locals Flow) → o ≡ Some e → (t : Locals) → Alike (code e) t (with_value o code) t
-value_is o e code is t = subst (λ (x : Option ScopedExpression). Alike (code e) t (with_value x code) t) (sym is) (alike_same (code e) t)
+value_is o e code is t = subst (λ (x : Option ScopedExpression). Alike (code e) t (with_value x code) t) (sym is) alike_same
 
 value_none : (o : Option ScopedExpression) (code : ScopedExpression → Behaviour Locals Flow) → o ≡ None → (t u : Locals) → Alike (with_value o code) t halts u
 value_none o code is t u = subst (λ (x : Option ScopedExpression). Alike (with_value x code) t halts u) (sym is) (halted t u)
 
 part_is : (o : Option ScopedStatement) (a : ScopedStatement) (code : ScopedStatement → Behaviour Locals Flow) → o ≡ Some a → (t : Locals) → Alike (code a) t (with_statement o code) t
-part_is o a code is t = subst (λ (x : Option ScopedStatement). Alike (code a) t (with_statement x code) t) (sym is) (alike_same (code a) t)
+part_is o a code is t = subst (λ (x : Option ScopedStatement). Alike (code a) t (with_statement x code) t) (sym is) alike_same
 
 part_none : (o : Option ScopedStatement) (code : ScopedStatement → Behaviour Locals Flow) → o ≡ None → (t u : Locals) → Alike (with_statement o code) t halts u
 part_none o code is t u = subst (λ (x : Option ScopedStatement). Alike (with_statement x code) t halts u) (sym is) (halted t u)
@@ -63,21 +63,21 @@ module _ (calls : Calls) (c : FrontCalls calls) (n : ℕ) (s : ScopedStatement) 
       there point v u = value_is (value_at s station) e (λ x. resumed calls x point v and_then λ w. station_trace calls n s station w normal) is u
 
       by : (came : Came) → Alike (behind calls e came and_then λ w. station_trace calls n s station w normal) t (behind_step calls n s (stepped_by_value station came)) t
-      by (settles v) = alike_value v _ t
+      by (settles v) = alike_value
       by (stages.acts action line point) =
-          alike_alike (alike_assoc _ _ _ t) (alike_alike (alike_behind fronts_updates (λ v u. there point 0 u) t) (alike_back (alike_renamed _ zero zero (λ v. statement_resumed calls n s (in_value station point) v) t)))
-      by (stages.reads cell line point) = alike_alike (alike_assoc _ _ _ t) (alike_behind (fronts_chooses (λ v. fronts_updates)) (λ v u. there point v u) t)
-      by (stages.asks line kind point) = alike_alike (alike_assoc _ _ _ t) (alike_behind (fronts_chooses (λ v. fronts_updates)) (λ v u. there point v u) t)
-      by (stages.signals cond line point) = alike_alike (alike_assoc _ _ _ t) (alike_behind (fronts_chooses (λ v. fronts_updates)) (λ v u. there point v u) t)
+          alike_alike alike_assoc (alike_alike (alike_behind fronts_updates (λ v u. there point 0 u) t) (alike_back (alike_renamed _ zero zero (λ v. statement_resumed calls n s (in_value station point) v) t)))
+      by (stages.reads cell line point) = alike_alike alike_assoc (alike_behind (fronts_chooses (λ v. fronts_updates)) (λ v u. there point v u) t)
+      by (stages.asks line kind point) = alike_alike alike_assoc (alike_behind (fronts_chooses (λ v. fronts_updates)) (λ v u. there point v u) t)
+      by (stages.signals cond line point) = alike_alike alike_assoc (alike_behind (fronts_chooses (λ v. fronts_updates)) (λ v u. there point v u) t)
       by (stages.creates routine value line point) =
           alike_alike (alike_chooses _ _ _ t) (alike_alike
-          (alike_choice IsAny (λ d. alike_alike (alike_assoc _ _ _ t) (alike_alike (alike_behind fronts_updates (λ v u. there point d u) t) (alike_back (alike_renamed _ d zero (λ v. statement_resumed calls n s (in_value station point) v) t)))))
+          (alike_choice IsAny (λ d. alike_alike alike_assoc (alike_alike (alike_behind fronts_updates (λ v u. there point d u) t) (alike_back (alike_renamed _ d zero (λ v. statement_resumed calls n s (in_value station point) v) t)))))
           (alike_back (alike_chooses _ _ _ t)))
-      by (stages.calls_on function kinds values point) = alike_alike (alike_assoc _ _ _ t) (alike_behind (fronts_frame (c.fronts function)) (λ v u. there point v u) t)
-      by (stages.fails kind line) = alike_alike (alike_assoc _ _ _ t) (alike_behind fronts_updates (λ v u. alike_halts _ u) t)
-      by (stages.refuses line) = alike_alike (alike_assoc _ _ _ t) (alike_behind fronts_updates (λ v u. alike_halts _ u) t)
+      by (stages.calls_on function kinds values point) = alike_alike alike_assoc (alike_behind (fronts_frame (c.fronts function)) (λ v u. there point v u) t)
+      by (stages.fails kind line) = alike_alike alike_assoc (alike_behind fronts_updates (λ v u. alike_halts) t)
+      by (stages.refuses line) = alike_alike alike_assoc (alike_behind fronts_updates (λ v u. alike_halts) t)
       by stages.quits = alike_leaves _ _ t
-      by stages.stops = alike_halts _ t
+      by stages.stops = alike_halts
 
   fronts_paused : (pause : Pause) → Fronts (paused calls pause)
   fronts_paused (acts action line) = fronts_updates
@@ -90,14 +90,14 @@ module _ (calls : Calls) (c : FrontCalls calls) (n : ℕ) (s : ScopedStatement) 
   -- behind a statement that came so far
   behind_parts : (a : ScopedStatement) → part_at s station ≡ Some a → (reached : Reached) (t : Locals)
       → Alike (behind_reached calls n a reached and_then λ flow. station_trace calls n s station 0 flow) t (behind_step calls n s (stepped_by_part station reached)) t
-  behind_parts a is (leads flow) t = alike_value flow _ t
+  behind_parts a is (leads flow) t = alike_value
   behind_parts a is (pauses pause footing) t =
-      alike_alike (alike_assoc _ _ _ t)
+      alike_alike alike_assoc
       (alike_behind (fronts_paused pause) (λ v u. part_is (part_at s station) a (λ x. statement_resumed calls n x footing v and_then λ flow. station_trace calls n s station 0 flow) is u) t)
-  behind_parts a is (fails kind line) t = alike_alike (alike_assoc _ _ _ t) (alike_behind fronts_updates (λ v u. alike_halts _ u) t)
-  behind_parts a is (refuses line) t = alike_alike (alike_assoc _ _ _ t) (alike_behind fronts_updates (λ v u. alike_halts _ u) t)
+  behind_parts a is (fails kind line) t = alike_alike alike_assoc (alike_behind fronts_updates (λ v u. alike_halts) t)
+  behind_parts a is (refuses line) t = alike_alike alike_assoc (alike_behind fronts_updates (λ v u. alike_halts) t)
   behind_parts a is quits t = alike_leaves _ _ t
-  behind_parts a is stops t = alike_halts _ t
+  behind_parts a is stops t = alike_halts
 
 -- ---- within an expression, and within a statement
 
@@ -231,7 +231,7 @@ part_comes bound s station footing given before middle after inner reached stepp
     }
 
 pub behind_stopped : (bound : ℕ) (s : ScopedStatement) (before : Locals) (reached : Reached) (stepped : Stepped) → stepped ≡ stopped reached → ComesBehind bound s stepped before reached before
-behind_stopped bound s before reached stepped is = subst (λ (x : Stepped). ComesBehind bound s x before reached before) (sym is) (record { same = λ p n depth. alike_same _ before; near = λ left h. h })
+behind_stopped bound s before reached stepped is = subst (λ (x : Stepped). ComesBehind bound s x before reached before) (sym is) (record { same = λ p n depth. alike_same; near = λ left h. h })
 
 -- a part that led on, and one that did not, which stands where it stands
 abbrev stepped_led : Station → Option Flow → Stepped
@@ -354,7 +354,7 @@ again_down bound s station next v flow stepped is down = subst (λ (x : Stepped)
 -- ---- step by step
 
 pub steps_first : (bound : ℕ) (s : ScopedStatement) (station : Station) (v : ℕ) (flow : Flow) (before : Locals) → Steps bound s station v flow before (again station v flow) before
-steps_first bound s station v flow before = record { same = λ p n depth. alike_same _ before; near = omega arith }
+steps_first bound s station v flow before = record { same = λ p n depth. alike_same; near = omega arith }
 
 steps_steps : (bound : ℕ) (s : ScopedStatement) (station now : Station) (v w : ℕ) (flow way : Flow) (before middle after : Locals) (stepped : Stepped)
     → Steps bound s station v flow before (again now w way) middle → Steps bound s now w way middle stepped after → Steps bound s station v flow before stepped after
