@@ -76,7 +76,7 @@ module _ (p : ScopedProgram) (n : ℕ) where
   -- ---- turns, one after the other
 
   pub no_turn : (running : Running) → Turns p n running (again running)
-  no_turn running = record { least = 0; same = λ depth h. alike_same _ _; fits = refl }
+  no_turn running = record { least = 0; same = λ depth h. alike_same; fits = refl }
 
   fits_on : (turned : Turned) (a b : ℕ) → b ≡ a → IsPausing turned b → IsPausing turned a
   fits_on turned a b e h = subst (λ (x : ℕ). IsPausing turned x) e h
@@ -356,4 +356,4 @@ module _ (p : ScopedProgram) (n : ℕ) where
 
   -- all calls of a thread are done
   pub turn_ends : (handles : List ℕ) (v made : ℕ) → Turns p n (running_with [] handles v made) (ending v handles)
-  turn_ends handles v made = record { least = 0; same = λ depth h. alike_same _ _; fits = tt }
+  turn_ends handles v made = record { least = 0; same = λ depth h. alike_same; fits = tt }

@@ -45,8 +45,8 @@ module _ (p : ScopedProgram) (n : ℕ) where
 
   call_is : (depth function : ℕ) (kinds : List IntType) (arguments : List ℕ) (next : ℕ → Behaviour Locals ℕ) (s : Locals)
       → Alike (paused (calls_within p n depth) (calls_on function kinds arguments) and_then next) s (in_frame (called function kinds arguments).values (frame_trace p n depth (called function kinds arguments) 0) and_then next) s
-  call_is zero function kinds arguments next s = alike_same _ s
-  call_is (suc depth) function kinds arguments next s = alike_same _ s
+  call_is zero function kinds arguments next s = alike_same
+  call_is (suc depth) function kinds arguments next s = alike_same
 
   -- the innermost call comes so far, and the others wait
   within_so : (depth own : ℕ) (frame : Frame) (callers : List Frame) (h k : ℕ → ℕ) (v : ℕ) (values : List ℕ) (reached : Reached) → depth - length callers ≡ suc own
@@ -65,7 +65,7 @@ module _ (p : ScopedProgram) (n : ℕ) where
   pause_so : (own function : ℕ) (footing : Footing) (values : List ℕ) (pause : Pause) (rest : ℕ → Behaviour Locals ℕ) (k : ℕ → ℕ)
       → Alike (in_frame values ((paused (calls_within p n own) pause and_then λ v. statement_resumed (calls_within p n own) n (function_at p function).body footing v) gives value_of (function_at p function).gives) and_then rest) (beyond k)
       (paused (calls_within p n own) pause and_then λ w. in_frame values (frame_trace p n (suc own) (record { function = function; footing = footing; values = values }) w) and_then rest) (beyond k)
-  pause_so own function footing values pause rest k = alike_alike (alike_then (frame_then (pause_beside (calls_within p n own) pause) values _ (value_of (function_at p function).gives) k) rest) (alike_assoc _ _ _ (beyond k))
+  pause_so own function footing values pause rest k = alike_alike (alike_then (frame_then (pause_beside (calls_within p n own) pause) values _ (value_of (function_at p function).gives) k) rest) alike_assoc
 
   pausing_so : (depth own function : ℕ) (footing : Footing) (values : List ℕ) (pause : Pause) (callers : List Frame) (k : ℕ → ℕ) → depth - length callers ≡ suc own
       → Alike (in_frame values ((paused (calls_within p n own) pause and_then λ v. statement_resumed (calls_within p n own) n (function_at p function).body footing v) gives value_of (function_at p function).gives) and_then λ w. frames_trace p n depth callers w) (beyond k)
@@ -92,8 +92,8 @@ module _ (p : ScopedProgram) (n : ℕ) where
       → Alike (in_frame values ((does {A = ℕ} line action zero and_then λ _. halts) gives g) and_then rest) (beyond k) (does {A = ℕ} line action zero and_then λ _. halts) t
   last_so own values line action g rest k t =
       alike_alike (alike_then (frame_then (beside_updates (at line action) zero) values (λ _. halts) g k) rest)
-      (alike_alike (alike_assoc _ _ _ (beyond k))
-      (alike_alike (alike_behind fronts_updates (λ v s. alike_alike (alike_then (frame_halts values g s s) rest) (alike_halts rest s)) (beyond k)) (last_action line action (beyond k) t)))
+      (alike_alike alike_assoc
+      (alike_alike (alike_behind fronts_updates (λ v s. alike_alike (alike_then (frame_halts values g s s) rest) alike_halts) (beyond k)) (last_action line action (beyond k) t)))
 
   -- where the innermost call came so far, the thread came so far
   reached_so : (depth own function : ℕ) (values : List ℕ) (callers : List Frame) (handles : List ℕ) (made : ℕ) (reached : Reached) → depth - length callers ≡ suc own → depth - suc (length callers) ≡ own
@@ -102,11 +102,11 @@ module _ (p : ScopedProgram) (n : ℕ) where
   reached_so depth own function values [] handles made (leads flow) e d =
       let g = value_of (function_at p function).gives in
       let rest : ℕ → Behaviour Locals ℕ = λ w. ends_with w in
-      alike_alike (alike_then (frame_value values flow g (words_of handles)) rest) (alike_value (g flow) rest (outside handles))
+      alike_alike (alike_then (frame_value values flow g (words_of handles)) rest) alike_value
   reached_so depth own function values (frame ∷ callers) handles made (leads flow) e d =
       let g = value_of (function_at p function).gives in
       let rest : ℕ → Behaviour Locals ℕ = λ w. frames_trace p n depth (frame ∷ callers) w in
-      alike_alike (alike_then (frame_value values flow g (words_of handles)) rest) (alike_value (g flow) rest (outside handles))
+      alike_alike (alike_then (frame_value values flow g (words_of handles)) rest) alike_value
   reached_so depth own function values callers handles made (pauses (acts action line) footing) e d = pausing_so depth own function footing values (acts action line) callers (words_of handles) e
   reached_so depth own function values callers handles made (pauses (reads cell line) footing) e d = pausing_so depth own function footing values (reads cell line) callers (words_of handles) e
   reached_so depth own function values callers handles made (pauses (asks line kind) footing) e d = pausing_so depth own function footing values (asks line kind) callers (words_of handles) e
@@ -122,7 +122,7 @@ module _ (p : ScopedProgram) (n : ℕ) where
   reached_so depth own function values callers handles made stops e d =
       let g = value_of (function_at p function).gives in
       let rest : ℕ → Behaviour Locals ℕ = λ w. frames_trace p n depth callers w in
-      alike_alike (alike_then (frame_halts values g (outside handles) (outside [])) rest) (alike_halts rest (outside []))
+      alike_alike (alike_then (frame_halts values g (outside handles) (outside [])) rest) alike_halts
 
   pausing_fits : (function : ℕ) (values : List ℕ) (callers : List Frame) (handles : List ℕ) (made : ℕ) (reached : Reached) → IsPlainReached reached → IsPausing (turned_by p (function_at p function).gives function values callers handles made reached) made
   pausing_fits function values [] handles made (leads flow) h = tt
