@@ -317,6 +317,7 @@ fn step(
 /// Goes on from a station, behind an expression with this value and a statement that led on so, up to the next pause,
 /// and leaves in `footing` where the statement stands behind it.
 #[cycle(walk)]
+#[inline(never)]
 fn go_on(
     alloc: Global,
     s: &ScopedStmt,
@@ -351,6 +352,7 @@ fn go_on(
 
 /// Goes on in the expression behind which a statement comes to this station, and behind it.
 #[cycle(walk)]
+#[inline(never)]
 fn walk_value(
     alloc: Global,
     s: &ScopedStmt,
