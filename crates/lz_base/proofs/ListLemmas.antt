@@ -1,7 +1,8 @@
 -- Facts on lists that the library lacks: searches for an item that meets a fact, and for one that does not.
-use Rattle.std.proofs.Common.{◌≡◌, ℕ, ◌+◌, ◌<◌, ◌≤◌, List, [], ◌∷◌, length, get_or, subst, sym, refl, ◌∙◌, arith, below_more}
+use Rattle.std.proofs.Common.{◌≡◌, ℕ, ◌+◌, ◌<◌, ◌≤◌, List, [], ◌∷◌, ◌++◌, length, get_or, subst, sym, refl, ◌∙◌, arith, below_more}
 use Rattle.std.specs.List.{All, Any, Contains}
 use Rattle.std.proofs.lemmas.List.{get_or_default}
+use Rattle.std.proofs.lemmas.List.Elements.{Contains-append_left, Contains-append_right}
 
 -- no item before this place meets the fact
 pub record NoneBefore {A : Type 0} (P : A → Type 0) (xs : List A) (i : ℕ) : Type 0 where
@@ -46,3 +47,15 @@ head_contained x rest = (0, omega arith, refl)
 -- an empty list contains nothing
 pub none_contained : {A : Type 0} (x : A) → Contains [] x → ⊥
 none_contained x (k, below, at) = absurd (omega (arith, below))
+
+-- as far as h sees of them, two functions agree at the numbers of a list
+pub record Agree (h f g : ℕ → ℕ) (xs : List ℕ) : Type 0 where
+  pub at : (x : ℕ) → Contains xs x → h (f x) ≡ h (g x)
+
+-- and so at those of its front
+pub agree_left : {h f g : ℕ → ℕ} (xs ys : List ℕ) → Agree h f g (xs ++ ys) → Agree h f g xs
+agree_left xs ys a = record { at = λ x here. a.at x (Contains-append_left xs ys x here) }
+
+-- and at those of what is behind
+pub agree_right : {h f g : ℕ → ℕ} (xs ys : List ℕ) → Agree h f g (xs ++ ys) → Agree h f g ys
+agree_right xs ys a = record { at = λ x here. a.at x (Contains-append_right xs ys x here) }

@@ -4,7 +4,7 @@ use Rattle.std.specs.List.{Contains}
 use Rattle.std.proofs.lemmas.Bool.{cases_lt, cases_eq, cases_Bool, false≢true}
 use Rattle.std.proofs.lemmas.List.{get_or_past}
 use Rattle.std.proofs.lemmas.Option.{slice_get_past, slice_get-map}
-use Rattle.std.proofs.lemmas.List.Elements.{Contains-append_left, Contains-append_right}
+use Rattle.lz_base.proofs.ListLemmas.{Agree, agree_left, agree_right}
 use Rattle.lz_tree.specs.declared.scoped.Object.{Object}
 use Rattle.lz_tree.specs.declared.scoped.Object.TheVariants.{Local, Cell, Mutex, Cond, Handle, Routine, Known}
 use Rattle.lz_tree.specs.ScopedTrees.{ScopedExpression, constant, null, text, object, address, paren, unary, cast, binary, choose, assign, step, call, lvalue, ScopedIndex, whole, element, ScopedExpressions, none, and, ScopedInitializer, nothing, single, listed, ScopedInitDeclarator, ScopedStatement, empty, eval, block, declare, when, while, do_while, for, break, continue, return, label, ScopedBranch, absent, branch, ScopedStatements, nil, cons, ScopedDefinition}
@@ -25,16 +25,6 @@ sees_all = record { top = λ a b c d left right. omega arith; more = λ a b e. a
 -- where they stop at the greatest
 pub sees_capped : Sees capped
 sees_capped = record { top = λ a b c d left right. omega arith; more = λ a b e. omega arith }
-
--- Two heights of functions agree at the functions of a list.
-pub record Agree (h : ℕ → ℕ) (f g : ℕ → ℕ) (calls : List ℕ) : Type 0 where
-  pub at : (x : ℕ) → Contains calls x → h (f x) ≡ h (g x)
-
-agree_left : {h : ℕ → ℕ} {f g : ℕ → ℕ} (xs ys : List ℕ) → Agree h f g (xs ++ ys) → Agree h f g xs
-agree_left xs ys a = record { at = λ x here. a.at x (Contains-append_left xs ys x here) }
-
-agree_right : {h : ℕ → ℕ} {f g : ℕ → ℕ} (xs ys : List ℕ) → Agree h f g (xs ++ ys) → Agree h f g ys
-agree_right xs ys a = record { at = λ x here. a.at x (Contains-append_right xs ys x here) }
 
 called_agrees : {h : ℕ → ℕ} {r s : ℕ → ℕ} → (callee : Object) → Agree h r s (called callee) → h (height_called r callee) ≡ h (height_called s callee)
 called_agrees (Local first len kind) a = refl

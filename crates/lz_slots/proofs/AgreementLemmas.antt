@@ -1,8 +1,6 @@
 -- What the numbers of a tree owe to the numbers of the functions that it calls: where these agree, so do those.
 use Rattle.std.proofs.Common.{◌≡◌, ℕ, ◌+◌, ◌*◌, List, [], ◌∷◌, ◌++◌, Option, Some, None, refl, ap, ◌∙◌}
-use Rattle.std.specs.List.{Contains}
-use Rattle.std.proofs.lemmas.List.Elements.{Contains-append_left, Contains-append_right}
-use Rattle.lz_base.proofs.ListLemmas.{head_contained}
+use Rattle.lz_base.proofs.ListLemmas.{Agree, agree_left, agree_right, head_contained}
 use Rattle.lz_tree.specs.declared.scoped.Object.{Object}
 use Rattle.lz_tree.specs.declared.scoped.Object.TheVariants.{Local, Cell, Mutex, Cond, Handle, Routine, Known}
 use Rattle.lz_tree.specs.declared.scoped.KnownName.{KnownName}
@@ -30,16 +28,6 @@ sees_all = record {
 -- where they stop at the greatest
 pub sees_saturated : Sees saturated
 sees_saturated = record { sum = λ {a} {b} {c} {d} left right. saturated_sum a b c d left right; product = saturated_product }
-
--- Two numbers of functions agree at the functions of a list.
-pub record Agree (h : ℕ → ℕ) (f g : ℕ → ℕ) (calls : List ℕ) : Type 0 where
-  pub at : (x : ℕ) → Contains calls x → h (f x) ≡ h (g x)
-
-pub agree_left : {h : ℕ → ℕ} {f g : ℕ → ℕ} (xs ys : List ℕ) → Agree h f g (xs ++ ys) → Agree h f g xs
-agree_left xs ys a = record { at = λ x here. a.at x (Contains-append_left xs ys x here) }
-
-pub agree_right : {h : ℕ → ℕ} {f g : ℕ → ℕ} (xs ys : List ℕ) → Agree h f g (xs ++ ys) → Agree h f g ys
-agree_right xs ys a = record { at = λ x here. a.at x (Contains-append_right xs ys x here) }
 
 -- ---- costs
 

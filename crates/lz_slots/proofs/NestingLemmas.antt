@@ -6,7 +6,7 @@ use Rattle.std.proofs.lemmas.List.Elements.{All-contains}
 use Rattle.lz_tree.specs.ScopedTrees.{ScopedDefinition}
 use Rattle.lz_tree.specs.Calls.{statement_calls, body_at, StandsBefore, IsCallOrder}
 use Rattle.lz_slots.specs.Nesting.{through_calls, saturated}
-use Rattle.lz_slots.proofs.AgreementLemmas.{Agree}
+use Rattle.lz_base.proofs.ListLemmas.{Agree}
 
 -- the functions that a function calls
 abbrev pub calls_of : List ScopedDefinition → ℕ → List ℕ
