@@ -227,7 +227,7 @@ fn enter_value(
     Ok(behind_value(station, came, footing))
 }
 
-/// Goes on in the statement behind which a statement comes to this station.
+/// Goes on in the statement behind which a statement comes to this station, and leaves in `went` how far it came.
 #[cycle(walk)]
 fn part(
     alloc: Global,
@@ -236,14 +236,18 @@ fn part(
     inner: &mut Footing,
     given: u32,
     bound: u32,
+    went: &mut Went,
     locals: &mut Locals,
-) -> Result<Went, Memory>
+) -> Result<(), Memory>
     requires { IsFitStatement (scoped_statement s.now) }
-    ensures { IfOk result (λ went. InnerComes bound (spec.part_at (scoped_statement s.now) (station_of station)) (footing_of inner.old) given (locals_of locals.old) (went_of went (footing_of inner.new)) (locals_of locals.new)) }
+    ensures { IfOk result (λ _. InnerComes bound (spec.part_at (scoped_statement s.now) (station_of station)) (footing_of inner.old) given (locals_of locals.old) (went_of went.new (footing_of inner.new)) (locals_of locals.new)) }
 {
     match statement_part_at(s, station) {
-        None => Ok(Went::Stops),
-        Some(of) => walk(alloc, of, inner, given, bound, locals),
+        None => {
+            *went = Went::Stops;
+            Ok(())
+        }
+        Some(of) => walk(alloc, of, inner, given, bound, went, locals),
     }
 }
 
@@ -263,7 +267,8 @@ fn enter_part(
     let mut inner = Footing::At {
         station: Station::Start,
     };
-    let went = part(alloc, s, station, &mut inner, 0, bound, locals)?;
+    let mut went = Went::Stops;
+    part(alloc, s, station, &mut inner, 0, bound, &mut went, locals)?;
     let stepped = behind_entered(alloc, station, went, inner, footing)?;
     Ok(stepped)
 }
@@ -315,7 +320,7 @@ fn step(
 }
 
 /// Goes on from a station, behind an expression with this value and a statement that led on so, up to the next pause,
-/// and leaves in `footing` where the statement stands behind it.
+/// and leaves in `footing` where the statement stands behind it, in `went` how far it came.
 #[cycle(walk)]
 #[inline(never)]
 fn go_on(
@@ -326,10 +331,11 @@ fn go_on(
     flow: Flow,
     bound: u32,
     footing: &mut Footing,
+    went: &mut Went,
     locals: &mut Locals,
-) -> Result<Went, Memory>
+) -> Result<(), Memory>
     requires { IsFitStatement (scoped_statement s.now) }
-    ensures { IfOk result (λ went. ComesBehind bound (scoped_statement s.now) (again (station_of station) value (flow_of flow)) (locals_of locals.old) (went_of went (footing_of footing.new)) (locals_of locals.new)) }
+    ensures { IfOk result (λ _. ComesBehind bound (scoped_statement s.now) (again (station_of station) value (flow_of flow)) (locals_of locals.old) (went_of went.new (footing_of footing.new)) (locals_of locals.new)) }
 {
     let mut now = station;
     let mut held = value;
@@ -345,7 +351,10 @@ fn go_on(
                 held = given;
                 led = way;
             }
-            Stepped::Stopped { went } => return Ok(went),
+            Stepped::Stopped { went: last } => {
+                *went = last;
+                return Ok(());
+            }
         }
     }
 }
@@ -361,10 +370,11 @@ fn walk_value(
     footing: &mut Footing,
     given: u32,
     bound: u32,
+    went: &mut Went,
     locals: &mut Locals,
-) -> Result<Went, Memory>
+) -> Result<(), Memory>
     requires { IsFitStatement (scoped_statement s.now) }
-    ensures { IfOk result (λ went. StatementComes bound (scoped_statement s.now) (in_value (station_of station) (point_of place)) given (locals_of locals.old) (went_of went (footing_of footing.new)) (locals_of locals.new)) }
+    ensures { IfOk result (λ _. StatementComes bound (scoped_statement s.now) (in_value (station_of station) (point_of place)) given (locals_of locals.old) (went_of went.new (footing_of footing.new)) (locals_of locals.new)) }
 {
     let came = value(alloc, s, station, place, given, locals)?;
     match behind_value(station, came, footing) {
@@ -372,16 +382,17 @@ fn walk_value(
             station: next,
             value: held,
             flow,
-        } => {
-            let went = go_on(alloc, s, next, held, flow, bound, footing, locals)?;
-            Ok(went)
+        } => go_on(alloc, s, next, held, flow, bound, footing, went, locals),
+        Stepped::Stopped { went: last } => {
+            *went = last;
+            Ok(())
         }
-        Stepped::Stopped { went } => Ok(went),
     }
 }
 
 /// Goes on from a footing of a statement, in place: the footings of the parts around the next pause stay where they
-/// are, and only what is left or entered is written. The frame of a level on the way down is kept small.
+/// are, and only what is left or entered is written. How far the statement came is left in `went`: it is written once,
+/// however many statements are around the pause. The frame of a level on the way down is kept small.
 #[cycle(walk)]
 fn walk(
     alloc: Global,
@@ -389,10 +400,11 @@ fn walk(
     footing: &mut Footing,
     given: u32,
     bound: u32,
+    went: &mut Went,
     locals: &mut Locals,
-) -> Result<Went, Memory>
+) -> Result<(), Memory>
     requires { IsFitStatement (scoped_statement s.now) }
-    ensures { IfOk result (λ went. StatementComes bound (scoped_statement s.now) (footing_of footing.old) given (locals_of locals.old) (went_of went (footing_of footing.new)) (locals_of locals.new)) }
+    ensures { IfOk result (λ _. StatementComes bound (scoped_statement s.now) (footing_of footing.old) given (locals_of locals.old) (went_of went.new (footing_of footing.new)) (locals_of locals.new)) }
 {
     match footing {
         Footing::At { station } => {
@@ -405,6 +417,7 @@ fn walk(
                 Flow::Normal,
                 bound,
                 footing,
+                went,
                 locals,
             )
         }
@@ -416,14 +429,16 @@ fn walk(
                     stage: Stage::Start,
                 },
             );
-            walk_value(alloc, s, station, place, footing, given, bound, locals)
+            walk_value(
+                alloc, s, station, place, footing, given, bound, went, locals,
+            )
         }
         Footing::InPart { station, inner } => {
             let station = *station;
-            let went = part(alloc, s, station, inner, given, bound, locals)?;
-            match led_on(&went) {
-                None => Ok(went),
-                Some(flow) => go_on(alloc, s, station, 0, flow, bound, footing, locals),
+            part(alloc, s, station, inner, given, bound, went, locals)?;
+            match led_on(went) {
+                None => Ok(()),
+                Some(flow) => go_on(alloc, s, station, 0, flow, bound, footing, went, locals),
             }
         }
     }
@@ -458,6 +473,7 @@ pub fn advance_statement(
     ensures { IfOk result (λ reached. StatementComes bound (scoped_statement s.now) (footing_of footing) given (locals_of locals.old) (reached_of reached) (locals_of locals.new)) }
 {
     let mut here = footing;
-    let went = walk(alloc, s, &mut here, given, bound, locals)?;
+    let mut went = Went::Stops;
+    walk(alloc, s, &mut here, given, bound, &mut went, locals)?;
     Ok(reached(went, here))
 }

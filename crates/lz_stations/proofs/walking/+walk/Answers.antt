@@ -11,7 +11,7 @@ use Rattle.lz_stations.proofs.WalkLemmas.{part_missing, part_there, part_entered
 use Rattle.lz_stations.proofs.walking.+walk.Goals as goal
 
 pub enter_part-returns : goal.enter_part-returns
-enter_part-returns t c = part_entered c.args.bound (scoped_statement c.args.s.now) (station_of c.args.station) _ _ _ _ c.in_ok-went.ensures c.in_ok-stepped.ensures
+enter_part-returns t c = part_entered c.args.bound (scoped_statement c.args.s.now) (station_of c.args.station) _ _ _ _ c.in_ok-part.ensures c.in_ok-stepped.ensures
 
 pub go_on-loop-next-init : goal.go_on-loop-next-init
 go_on-loop-next-init t c = steps_first c.args.bound (scoped_statement c.args.s.now) (station_of c.args.station) c.args.value (flow_of c.args.flow) _
@@ -97,12 +97,14 @@ part-walk-requires t c =
 
 pub part-returns-in-Some : goal.part-returns-in-Some
 part-returns-in-Some t c =
-    IfOk-weaker c.walk.result _ _ (λ went comes. part_there c.args.bound (part_at (scoped_statement c.args.s.now) (station_of c.args.station)) _ _ c.args.given _ _ _ c.in-Some.ensures comes) c.walk.ensures
+    IfOk-weaker c.walk.result _ _ (λ done comes. part_there c.args.bound (part_at (scoped_statement c.args.s.now) (station_of c.args.station)) _ _ c.args.given _ _ _ c.in-Some.ensures comes) c.walk.ensures
 
-pub walk_value-returns-in_ok-went-in-Again : goal.walk_value-returns-in_ok-went-in-Again
-walk_value-returns-in_ok-went-in-Again t c =
-    let on = behind_again c.args.bound (scoped_statement c.args.s.now) (station_of c.in-Again.next) c.in-Again.held (flow_of c.in-Again.flow) _ _ _ _ (ap (λ x. stepped_of x (footing_of c.behind_value.new.footing)) c.in-Again.is) c.in_ok-went-in-Again.ensures in
-    value_comes c.args.bound (scoped_statement c.args.s.now) (station_of c.args.station) _ c.args.given _ _ _ _ _ _ c.in_ok-came.ensures c.behind_value.ensures on
+pub walk_value-returns-in-Again : goal.walk_value-returns-in-Again
+walk_value-returns-in-Again t c =
+    let is = ap (λ x. stepped_of x (footing_of c.behind_value.new.footing)) c.in-Again.is in
+    IfOk-weaker c.go_on.result _ _
+    (λ done comes. value_comes c.args.bound (scoped_statement c.args.s.now) (station_of c.args.station) _ c.args.given _ _ _ _ _ _ c.in_ok-came.ensures c.behind_value.ensures
+    (behind_again c.args.bound (scoped_statement c.args.s.now) (station_of c.in-Again.next) c.in-Again.held (flow_of c.in-Again.flow) _ _ _ _ is comes)) c.go_on.ensures
 
 pub walk_value-returns-in-Stopped : goal.walk_value-returns-in-Stopped
 walk_value-returns-in-Stopped t c =
@@ -111,7 +113,7 @@ walk_value-returns-in-Stopped t c =
 
 pub walk-returns-in-At : goal.walk-returns-in-At
 walk-returns-in-At t c =
-    let on = IfOk-weaker c.go_on.result _ _ (λ went comes. station_comes c.args.bound (scoped_statement c.args.s.now) (station_of c.in-At.station) c.args.given _ _ _ comes) c.go_on.ensures in
+    let on = IfOk-weaker c.go_on.result _ _ (λ done comes. station_comes c.args.bound (scoped_statement c.args.s.now) (station_of c.in-At.station) c.args.given _ _ _ comes) c.go_on.ensures in
     rw (c.in-At.is) on
 
 pub walk-returns-in-InValue : goal.walk-returns-in-InValue
@@ -119,11 +121,11 @@ walk-returns-in-InValue t c = rw (c.in-InValue.is, sym c.replace-place.ensures.v
 
 pub walk-returns-in-None : goal.walk-returns-in-None
 walk-returns-in-None t c =
-    let on = part_stays c.args.bound (scoped_statement c.args.s.now) (station_of c.in-InPart.station) _ c.args.given _ _ c.in_ok-went-in-InPart.went _ c.in_ok-went-in-InPart.ensures c.in-None.ensures in
+    let on = part_stays c.args.bound (scoped_statement c.args.s.now) (station_of c.in-InPart.station) _ c.args.given _ _ c.part.new.went _ c.in_ok-part-in-InPart.ensures c.in-None.ensures in
     rw (c.in-InPart.is, sym c.deref_mut.ensures.value) on
 
 pub walk-returns-in-Some : goal.walk-returns-in-Some
 walk-returns-in-Some t c =
     let on = IfOk-weaker c.go_on-in-Some.result _ _
-    (λ went comes. part_leads c.args.bound (scoped_statement c.args.s.now) (station_of c.in-InPart.station) _ c.args.given _ _ _ c.in_ok-went-in-InPart.went _ (flow_of c.in-Some.flow) _ c.in_ok-went-in-InPart.ensures c.in-Some.ensures comes) c.go_on-in-Some.ensures in
+    (λ done comes. part_leads c.args.bound (scoped_statement c.args.s.now) (station_of c.in-InPart.station) _ c.args.given _ _ _ c.part.new.went _ (flow_of c.in-Some.flow) _ c.in_ok-part-in-InPart.ensures c.in-Some.ensures comes) c.go_on-in-Some.ensures in
     rw (c.in-InPart.is, sym c.deref_mut.ensures.value) on
