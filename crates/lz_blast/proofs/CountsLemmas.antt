@@ -13,7 +13,7 @@ use Rattle.lz_ssa.specs.declared.node.Node.{Node}
 use Rattle.lz_ssa.specs.declared.node.Node.TheVariants as nodes
 use Rattle.lz_ssa.specs.NodeValues.{IsNodeOf, AreNodesFrom}
 use Rattle.lz_ssa.specs.NodeWeight.{node_number, nodes_weight}
-use Rattle.lz_blast.specs.Counts.{node_variables, node_clauses, nodes_variables, nodes_clauses}
+use Rattle.lz_blast.specs.Counts.{node_variables, node_clauses, nodes_variables, nodes_clauses, clauses_per_weight}
 
 -- one more node has its variables behind the others'
 pub variables_push : (list : List Node) (node : Node) → nodes_variables (list ++ node ∷ []) ≡ nodes_variables list + node_variables node
@@ -38,14 +38,14 @@ clauses_push (first ∷ rest) node = ap (λ (m : ℕ). node_clauses first + m) (
     by x y z = omega arith
 
 -- an operator against its number
-unary_weighs : (op : Unary) → (unary_variables op ≤ unary_number op) × (unary_clauses op ≤ 100 * unary_number op)
+unary_weighs : (op : Unary) → (unary_variables op ≤ unary_number op) × (unary_clauses op ≤ clauses_per_weight * unary_number op)
 unary_weighs Plus = (omega arith, omega arith)
 unary_weighs Minus = (omega arith, omega arith)
 unary_weighs Invert = (omega arith, omega arith)
 unary_weighs Not = (omega arith, omega arith)
 
--- the circuit of a binary operator has as many variables as its number at most, and 100 times as many clauses
-binary_weighs : (op : Binary) → (binary_variables op ≤ binary_number op) × (binary_clauses op ≤ 100 * binary_number op)
+-- the circuit of a binary operator has as many variables as its number at most, and clauses by its number too
+binary_weighs : (op : Binary) → (binary_variables op ≤ binary_number op) × (binary_clauses op ≤ clauses_per_weight * binary_number op)
 binary_weighs Mul = (omega arith, omega arith)
 binary_weighs Div = (omega arith, omega arith)
 binary_weighs Rem = (omega arith, omega arith)
@@ -66,7 +66,7 @@ binary_weighs Both = (omega arith, omega arith)
 binary_weighs Either = (omega arith, omega arith)
 
 -- so that of a node
-node_weighs : (node : Node) → (node_variables node ≤ node_number node) × (node_clauses node ≤ 100 * node_number node)
+node_weighs : (node : Node) → (node_variables node ≤ node_number node) × (node_clauses node ≤ clauses_per_weight * node_number node)
 node_weighs (nodes.Constant value) = (omega arith, omega arith)
 node_weighs (nodes.Input number kind) = (omega arith, omega arith)
 node_weighs (nodes.Unary op kind of) = unary_weighs op
@@ -75,7 +75,7 @@ node_weighs (nodes.Convert from to of) = (omega arith, omega arith)
 node_weighs (nodes.Choose test chosen other) = (omega arith, omega arith)
 
 -- so those of all nodes
-pub nodes_weigh : (list : List Node) → (nodes_variables list ≤ nodes_weight list) × (nodes_clauses list ≤ 100 * nodes_weight list)
+pub nodes_weigh : (list : List Node) → (nodes_variables list ≤ nodes_weight list) × (nodes_clauses list ≤ clauses_per_weight * nodes_weight list)
 nodes_weigh [] = (omega arith, omega arith)
 nodes_weigh (first ∷ rest) =
     let one = node_weighs first in
@@ -84,7 +84,7 @@ nodes_weigh (first ∷ rest) =
     (omega arith, omega arith)
 
 -- the first node is a constant or an input, which carries what the truth variable and the last test take
-first_weighs : (inputs : ℕ) (first : Node) → IsNodeOf inputs 0 first → (node_variables first + 2 ≤ node_number first) × (node_clauses first + 35 ≤ 100 * node_number first)
+first_weighs : (inputs : ℕ) (first : Node) → IsNodeOf inputs 0 first → (node_variables first + 2 ≤ node_number first) × (node_clauses first + 35 ≤ clauses_per_weight * node_number first)
 first_weighs inputs (nodes.Constant value) h = (omega arith, omega arith)
 first_weighs inputs (nodes.Input number kind) h = (omega arith, omega arith)
 first_weighs inputs (nodes.Unary op kind of) h = absurd (omega arith)
@@ -93,7 +93,7 @@ first_weighs inputs (nodes.Convert from to of) h = absurd (omega arith)
 first_weighs inputs (nodes.Choose test chosen other) h = absurd (let z = h.0 in omega arith)
 
 -- two variables and 35 clauses are left over for the truth literal and the last test
-pub all_weigh : (inputs : ℕ) (list : List Node) → AreNodesFrom inputs 0 list → 0 < length list → (nodes_variables list + 2 ≤ nodes_weight list) × (nodes_clauses list + 35 ≤ 100 * nodes_weight list)
+pub all_weigh : (inputs : ℕ) (list : List Node) → AreNodesFrom inputs 0 list → 0 < length list → (nodes_variables list + 2 ≤ nodes_weight list) × (nodes_clauses list + 35 ≤ clauses_per_weight * nodes_weight list)
 unfolding AreNodesFrom
 all_weigh inputs [] h lt = absurd (omega arith)
 all_weigh inputs (first ∷ rest) h lt =

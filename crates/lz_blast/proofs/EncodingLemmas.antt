@@ -9,6 +9,7 @@ use Rattle.lz_gates.specs.Circuits.{Circuit, Assignment, value, clause_value, Sa
 use Rattle.lz_gates.proofs.ExtendingLemmas.{value_agrees, satisfies_agrees, satisfies_back, still, agree_refl, agree_trans, each_model_once}
 use Rattle.lz_gates.proofs.GateLemmas.{value-positive, put, put_same, put_below}
 use Rattle.lz_arith.specs.Bits.{bit, word, AreBits}
+use Rattle.lz_arith.specs.Sizes.{word_width}
 use Rattle.lz_arith.proofs.AddLemmas.{are_lits_more}
 use Rattle.lz_blast.specs.Encoding.{words, fresh_word, input_at, Reads, AreInputs, Encodes}
 
@@ -128,10 +129,10 @@ length-fresh_word n zero = refl
 length-fresh_word n (suc k) = ap suc (length-fresh_word (n + 1) k)
 
 -- fresh literals are of the larger circuit
-pub fresh_bits_in : (old new : Circuit) (w : List Lit) → new.variables ≡ old.variables + 32 → w ≡ fresh_word old.variables 32 → AreBits new 32 w
+pub fresh_bits_in : (old new : Circuit) (w : List Lit) → new.variables ≡ old.variables + word_width → w ≡ fresh_word old.variables word_width → AreBits new word_width w
 fresh_bits_in old new w more e = record {
-  length = ap (λ (xs : List Lit). length xs) e ∙ length-fresh_word old.variables 32;
-  lits = subst (λ (xs : List Lit). AreLits new xs) (sym e) (fresh_in new old.variables 32 (omega arith));
+  length = ap (λ (xs : List Lit). length xs) e ∙ length-fresh_word old.variables word_width;
+  lits = subst (λ (xs : List Lit). AreLits new xs) (sym e) (fresh_in new old.variables word_width (omega arith));
 }
 
 -- the input that was written, and the others
@@ -178,7 +179,7 @@ reads_set a inputs number w v lt here h =
 -- the first node of an input
 pub encodes_input : (old new : Circuit) (inputs nodes : List (List Lit)) (values : (ℕ → ℕ) → List ℕ) (number : ℕ) (w : List Lit)
     → IsCircuit old → Encodes old inputs nodes values → number < length inputs → length (input_at inputs number) ≡ 0
-    → new.variables ≡ old.variables + 32 → new.clauses ≡ old.clauses → w ≡ fresh_word old.variables 32
+    → new.variables ≡ old.variables + word_width → new.clauses ≡ old.clauses → w ≡ fresh_word old.variables word_width
     → Encodes new (set inputs number w) (nodes ++ w ∷ []) (λ v. values v ++ v number ∷ [])
 unfolding AreInputs
 encodes_input old new inputs nodes values number w circuit h lt none more same is =
@@ -186,10 +187,10 @@ encodes_input old new inputs nodes values number w circuit h lt none more same i
     let some : 0 < length w = omega (arith, in_.length) in
     let smaller : (a : Assignment) → Satisfies a new.clauses → Satisfies a old.clauses = λ a s. subst (λ (cs : List (List Lit)). Satisfies a cs) same s in
     record {
-      inputs_in = set_cases (λ i xs. 0 < length xs → AreBits new 32 xs) inputs number w lt (λ s. in_) (λ i other. inputs_more old new inputs (omega arith) h.inputs_in i);
+      inputs_in = set_cases (λ i xs. 0 < length xs → AreBits new word_width xs) inputs number w lt (λ s. in_) (λ i other. inputs_more old new inputs (omega arith) h.inputs_in i);
       some = λ v range.
           let a = h.some v range in
-          let b = fresh_any old.variables 32 (v number) a.0 (range number) in (
+          let b = fresh_any old.variables word_width (v number) a.0 (range number) in (
             b.0,
             subst (λ (cs : List (List Lit)). Satisfies b.0 cs) (sym same) (satisfies_agrees old.variables a.0 b.0 old.clauses b.1 circuit.below a.1),
             reads_set b.0 inputs number w v lt (ap (word b.0) is ∙ b.2) (reads_agree old a.0 b.0 inputs v b.1 h.inputs_in a.2),
@@ -197,7 +198,7 @@ encodes_input old new inputs nodes values number w circuit h lt none more same i
       once = λ v a b s t r q.
           let before = h.once v a b (smaller a s) (smaller b t) (reads_before a inputs number w v lt none r) (reads_before b inputs number w v lt none q) in
           let one : word a w ≡ word b w = reads_now a inputs number w v lt some r ∙ sym (reads_now b inputs number w v lt some q) in
-          subst (λ (n : ℕ). Agree n a b) (sym more) (fresh_once old.variables 32 a b before (ap (word a) (sym is) ∙ one ∙ ap (word b) is));
+          subst (λ (n : ℕ). Agree n a b) (sym more) (fresh_once old.variables word_width a b before (ap (word a) (sym is) ∙ one ∙ ap (word b) is));
       says = λ v a s r.
           let before = h.says v a (smaller a s) (reads_before a inputs number w v lt none r) in
           words_push a nodes w ∙ ap (λ (n : ℕ). words a nodes ++ n ∷ []) (reads_now a inputs number w v lt some r) ∙ ap (λ (ns : List ℕ). ns ++ v number ∷ []) before;

@@ -12,11 +12,13 @@ use Rattle.lz_gates.specs.Values.{assigned, listed}
 use Rattle.lz_gates.proofs.ExtendingLemmas.{satisfies_front, satisfies_back, satisfies_append, still, each_model_once, makes_so}
 use Rattle.lz_gates.proofs.ValuesLemmas.{model_satisfies, satisfies_model, listed_at, read_value}
 use Rattle.lz_arith.specs.Bits.{word}
+use Rattle.lz_arith.specs.Sizes.{word_width}
 use Rattle.lz_arith.proofs.AddLemmas.{are_lits_more}
 use Rattle.lz_arith.proofs.SignsLemmas.{word_small}
 use Rattle.lz_ssa.specs.declared.node.Nodes.{Nodes}
 use Rattle.lz_ssa.specs.NodeValues.{values_of, FailsAt, AreWellFormed}
 use Rattle.lz_ssa.specs.NodeWeight.{nodes_weight}
+use Rattle.lz_blast.specs.Counts.{clauses_per_weight}
 use Rattle.lz_blast.specs.Encoding.{input_at, Reads, AreInputs}
 use Rattle.lz_blast.specs.Formulas.{ReadsInput, told_input, Decides}
 use Rattle.lz_blast.specs.Steps.{Stands}
@@ -61,7 +63,7 @@ pub tested_of : (nodes : Nodes) (before tested required : Circuit) (formula : Cn
 tested_of nodes before tested required formula inputs before_words items held test stands formed lent is made v c e f =
     let word_is : held ≡ get_or before_words nodes.fails held = is ∙ ap (λ (xs : List (List Lit)). get_or xs nodes.fails held) lent in
     let place : nodes.fails < length before_words = omega (arith, stands.count, formed.fails) in
-    let long : length held ≡ 32 = ap (λ (xs : List Lit). length xs) word_is ∙ (stands.words_in nodes.fails held place).length in
+    let long : length held ≡ word_width = ap (λ (xs : List Lit). length xs) word_is ∙ (stands.words_in nodes.fails held place).length in
     record {
       stands = stands;
       formed = formed;
@@ -99,7 +101,7 @@ told_range before inputs values i all = by (input_at inputs i) refl
     by : (xs : List Lit) → input_at inputs i ≡ xs → word (assigned values) xs < value_bound
     by [] e = omega arith
     by (x ∷ xs) e =
-        let long : length (x ∷ xs) ≡ 32 = ap (λ (ys : List Lit). length ys) (sym e) ∙ (all i (subst (λ (ys : List Lit). 0 < length ys) (sym e) (omega arith))).length in
+        let long : length (x ∷ xs) ≡ word_width = ap (λ (ys : List Lit). length ys) (sym e) ∙ (all i (subst (λ (ys : List Lit). 0 < length ys) (sym e) (omega arith))).length in
         word_small (assigned values) (x ∷ xs) long
 
 -- each model tells inputs on which the node is not 0
@@ -149,9 +151,9 @@ decides nodes before tested formula inputs before_words held test h ended circui
   read = λ i. (h.stands.reads i, h.stands.read i);
 }
 
--- with at most as many variables as the weight, and 100 times as many clauses
+-- with at most as many variables as the weight, and clauses by the weight too
 pub counted : (nodes : Nodes) (before tested : Circuit) (formula : Cnf) (inputs before_words : List (List Lit)) (held : List Lit) (test : Lit) → Tested nodes before tested formula inputs before_words held test
-    → (formula.variables ≤ nodes_weight nodes.list) × (length formula.clauses ≤ 100 * nodes_weight nodes.list)
+    → (formula.variables ≤ nodes_weight nodes.list) × (length formula.clauses ≤ clauses_per_weight * nodes_weight nodes.list)
 counted nodes before tested formula inputs before_words held test h =
     let w = all_weigh nodes.inputs nodes.list h.formed.list (let p = h.formed.fails in omega arith) in
     let variables_ = w.0 in

@@ -9,6 +9,7 @@ use Rattle.lz_cnf.specs.declared.clause.Lit.{Lit}
 use Rattle.lz_gates.specs.Circuits.{Circuit, Assignment, Satisfies, AreBelow, IsCircuit, Extends, first_clauses}
 use Rattle.lz_gates.proofs.ExtendingLemmas.{extends_same, is_circuit_still, is_circuit_first, below_more}
 use Rattle.lz_arith.specs.Bits.{word, AreBits}
+use Rattle.lz_arith.specs.Sizes.{word_width}
 use Rattle.lz_arith.proofs.AddLemmas.{are_lits_more}
 use Rattle.lz_ssa.specs.declared.node.Node.{Node}
 use Rattle.lz_ssa.specs.declared.node.Node.TheVariants as nodes
@@ -48,9 +49,9 @@ reads_last [] node i h = inl h
 reads_last (first ∷ rest) node i h = inr (reads_last rest node i h)
 
 -- the words so far stay words of a larger circuit, and one more is
-words_more : (old new : Circuit) (before : List (List Lit)) (w : List Lit) → old.variables ≤ new.variables → All (AreBits old 32) before → AreBits new 32 w → All (AreBits new 32) (before ++ w ∷ [])
+words_more : (old new : Circuit) (before : List (List Lit)) (w : List Lit) → old.variables ≤ new.variables → All (AreBits old word_width) before → AreBits new word_width w → All (AreBits new word_width) (before ++ w ∷ [])
 words_more old new before w le all one =
-    All-push (AreBits new 32) before w (λ k d lt. record { length = (all k d lt).length; lits = are_lits_more old new (get_or before k d) le (all k d lt).lits }) one
+    All-push (AreBits new word_width) before w (λ k d lt. record { length = (all k d lt).length; lits = are_lits_more old new (get_or before k d) le (all k d lt).lits }) one
 
 -- what stands for some words stands for the same words, said otherwise
 encodes_as : (circuit : Circuit) (inputs words_ : List (List Lit)) (f g : (ℕ → ℕ) → List ℕ) → ((v : ℕ → ℕ) → f v ≡ g v) → Encodes circuit inputs words_ f → Encodes circuit inputs words_ g
@@ -63,7 +64,7 @@ encodes_as circuit inputs words_ f g e h = record {
 
 -- a node whose word is settled by what is read and by the words so far
 stands_node : (old new : Circuit) (inputs before after : List (List Lit)) (node : Node) (w : List Lit) (list : List Node) → Stands old inputs before list
-    → Extends old new → AreBits new 32 w → after ≡ before ++ w ∷ []
+    → Extends old new → AreBits new word_width w → after ≡ before ++ w ∷ []
     → new.variables ≤ old.variables + node_variables node → length new.clauses ≤ length old.clauses + node_clauses node
     → ((v : ℕ → ℕ) (a : Assignment) → Satisfies a new.clauses → Reads a inputs v → word a w ≡ node_value node v (words a before))
     → ((i : ℕ) → IsInput node i → 0 < length (input_at inputs i)) → Stands new inputs after (list ++ node ∷ [])
@@ -95,7 +96,7 @@ unfolding Reads AreInputs
 steps_again circuit inputs before after number kind w some is e = record {
   stands = λ list s.
       stands_node circuit circuit inputs before after (nodes.Input number kind) w list s (extends_same circuit)
-      (subst (λ (xs : List Lit). AreBits circuit 32 xs) (sym is) (s.encodes.inputs_in number some)) e (omega arith) (omega arith)
+      (subst (λ (xs : List Lit). AreBits circuit word_width xs) (sym is) (s.encodes.inputs_in number some)) e (omega arith) (omega arith)
       (λ v a t r. ap (word a) is ∙ r number some) (λ i same. subst (λ (j : ℕ). 0 < length (input_at inputs j)) same some);
 }
 
@@ -109,7 +110,7 @@ circuit_larger old new le e h = record {
 
 -- the first node of an input
 pub steps_fresh : (old new : Circuit) (inputs inputs_after before after : List (List Lit)) (number : ℕ) (kind : IntType) (w copy : List Lit) → number < length inputs → length (input_at inputs number) ≡ 0
-    → new.variables ≡ old.variables + 32 → new.clauses ≡ old.clauses → w ≡ fresh_word old.variables 32 → copy ≡ w → inputs_after ≡ set inputs number copy → after ≡ before ++ w ∷ []
+    → new.variables ≡ old.variables + word_width → new.clauses ≡ old.clauses → w ≡ fresh_word old.variables word_width → copy ≡ w → inputs_after ≡ set inputs number copy → after ≡ before ++ w ∷ []
     → Steps old new inputs inputs_after before after (nodes.Input number kind)
 steps_fresh old new inputs inputs_after before after number kind w copy lt none more same is copied set_is e = record {
   stands = λ list s.

@@ -2,10 +2,12 @@
 use Rattle.std.proofs.Common.{◌≡◌, ℕ, zero, suc, ◌+◌, ◌*◌, ◌^◌, ◌/◌, ◌%◌, ◌<◌, ◌≤◌, Bool, eqb, List, [], ◌∷◌, ◌++◌, length, get_or, replicate, refl, sym, ◌∙◌, ap, arith}
 use Rattle.std.proofs.lemmas.List.{length_push}
 use Rattle.std.proofs.lemmas.List.Elements.{All-push}
+use Rattle.lz_base.specs.Words.{value_bound}
 use Rattle.lz_cnf.specs.declared.clause.Lit.{Lit}
 use Rattle.lz_gates.specs.Circuits.{Circuit, Assignment, value, Satisfies, IsLit, Makes}
 use Rattle.lz_gates.proofs.ExtendingLemmas.{makes_same}
 use Rattle.lz_arith.specs.Bits.{bit, word, AreBits}
+use Rattle.lz_arith.specs.Sizes.{word_width}
 use Rattle.lz_arith.proofs.WordsLemmas.{word_push, pow_twice}
 use Rattle.lz_blast.specs.Encoding.{fresh_word, input_at}
 use Rattle.lz_blast.proofs.EncodingLemmas.{odd_bit}
@@ -44,12 +46,12 @@ knows_more circuit number bits rest i lit h lit_in says = record {
   small = let p = h.small in omega arith;
 }
 
--- a number below 2^32 leaves nothing after 32 bits
-none_left : (w r n : ℕ) → w + 4294967296 * r ≡ n → n < 4294967296 → w ≡ n
+-- a number in the range of words leaves nothing after the bits of a word
+none_left : (w r n : ℕ) → w + value_bound * r ≡ n → n < value_bound → w ≡ n
 none_left w r n e lt = omega arith
 
--- after 32 bits the word is the number
-pub knows_all : (circuit : Circuit) (number : ℕ) (bits : List Lit) (rest i : ℕ) → Knows circuit number bits rest i → i ≡ 32 → number < 2 ^ 32 → Makes circuit circuit 0 0 (λ a. word a bits ≡ number)
+-- after these bits the word is the number
+pub knows_all : (circuit : Circuit) (number : ℕ) (bits : List Lit) (rest i : ℕ) → Knows circuit number bits rest i → i ≡ word_width → number < value_bound → Makes circuit circuit 0 0 (λ a. word a bits ≡ number)
 knows_all circuit number bits rest i h e lt = makes_same circuit (λ a. word a bits ≡ number) (λ a s. none_left (word a bits) rest number (ap (λ (k : ℕ). word a bits + 2 ^ k * rest) (sym e) ∙ h.says a s) lt)
 
 -- so many fresh literals

@@ -4,6 +4,7 @@ use Rattle.lz_base.specs.Words.{value_bound}
 use Rattle.lz_cnf.specs.declared.clause.Lit.{Lit}
 use Rattle.lz_gates.specs.Circuits.{Circuit, Assignment, Satisfies, Agree}
 use Rattle.lz_arith.specs.Bits.{word, AreBits}
+use Rattle.lz_arith.specs.Sizes.{word_width}
 
 -- the numbers of words
 abbrev pub words : Assignment → List (List Lit) → List ℕ
@@ -23,9 +24,9 @@ input_at inputs i = slice_index_or inputs i []
 unfoldable pub Reads : Assignment → List (List Lit) → (ℕ → ℕ) → Type 0
 Reads a inputs v = (i : ℕ) → 0 < length (input_at inputs i) → word a (input_at inputs i) ≡ v i
 
--- each input that is read has 32 literals of the circuit
+-- each input that is read has as many literals of the circuit as a word has bits
 unfoldable pub AreInputs : Circuit → List (List Lit) → Type 0
-AreInputs circuit inputs = (i : ℕ) → 0 < length (input_at inputs i) → AreBits circuit 32 (input_at inputs i)
+AreInputs circuit inputs = (i : ℕ) → 0 < length (input_at inputs i) → AreBits circuit word_width (input_at inputs i)
 
 -- Inputs in range have exactly one model, and there the words of the nodes have the nodes' values.
 pub record Encodes (circuit : Circuit) (inputs nodes : List (List Lit)) (values : (ℕ → ℕ) → List ℕ) : Type 0 where

@@ -1,7 +1,9 @@
 //! Words that are known.
-ghost use Rattle.std.specs.Prelude.{◌≡◌, ◌<◌, ◌^◌, ℕ, IfOk};
+ghost use Rattle.std.specs.Prelude.{◌≡◌, ◌<◌, ℕ, IfOk};
+ghost use Rattle.lz_base.specs.Words.{value_bound};
 ghost use Rattle.lz_gates.specs.Circuits.{Assignment, Satisfies, value, IsLit, Makes};
 ghost use Rattle.lz_arith.specs.Bits.{bit, word, AreBits};
+ghost use Rattle.lz_arith.specs.Sizes.{word_width};
 
 use lz_arith::Bits;
 use lz_base::{Memory, Value};
@@ -23,8 +25,8 @@ fn known(builder: &Builder, one: bool) -> Lit
 
 /// The literals of a known word.
 pub(crate) fn constant_bits(alloc: Global, builder: &Builder, number: Value) -> Result<Bits, Memory>
-    requires small { number < 2 ^ 32 }
-    ensures bits { IfOk result (AreBits builder.now 32) }
+    requires small { number < value_bound }
+    ensures bits { IfOk result (AreBits builder.now word_width) }
     ensures made { IfOk result (λ r. Makes builder.now builder.now 0 0 (λ a. word a r ≡ number)) }
 {
     let mut bits = Bits::new(alloc);

@@ -5,6 +5,7 @@ ghost use Rattle.lz_base.specs.Limits.{cost_limit};
 ghost use Rattle.lz_cnf.specs.Models.{IsFormula};
 ghost use Rattle.lz_ssa.specs.NodeValues.{AreWellFormed};
 ghost use Rattle.lz_ssa.specs.NodeWeight.{nodes_weight};
+ghost use Rattle.lz_blast.specs.Counts.{clauses_per_weight};
 ghost use Rattle.lz_blast.specs.Formulas.{Decides};
 
 use crate::input::{BitsList, listed, unread};
@@ -34,7 +35,7 @@ pub fn blast(alloc: Global, nodes: &Nodes) -> Result<Blasted, Memory>
     ensures inputs { IfOk result (λ b. length b.inputs ≡ nodes.now.inputs) }
 
     ensures variables { IfOk result (λ b. b.formula.variables ≤ nodes_weight nodes.now.list) }
-    ensures clauses { IfOk result (λ b. length b.formula.clauses ≤ 100 * nodes_weight nodes.now.list) }
+    ensures clauses { IfOk result (λ b. length b.formula.clauses ≤ clauses_per_weight * nodes_weight nodes.now.list) }
 {
     let mut builder = Builder::new(alloc)?;
     let mut words = BitsList::new(alloc);

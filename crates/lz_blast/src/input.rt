@@ -5,6 +5,7 @@ ghost use Rattle.lz_base.specs.declared.word.IntType.{IntType};
 ghost use Rattle.lz_cnf.specs.Models.{variable_bound};
 ghost use Rattle.lz_gates.specs.Circuits.{Circuit};
 ghost use Rattle.lz_arith.specs.Bits.{AreBits};
+ghost use Rattle.lz_arith.specs.Sizes.{word_width};
 ghost use Rattle.lz_ssa.specs.declared.node.Node.TheVariants as nodes;
 ghost use Rattle.lz_blast.specs.Encoding.{fresh_word, AreInputs};
 ghost use Rattle.lz_blast.specs.Steps.{Steps};
@@ -19,9 +20,9 @@ pub type BitsList = Sequence<Bits>;
 
 /// A word of fresh literals.
 fn fresh_bits(alloc: Global, builder: &mut Builder) -> Result<Bits, Memory>
-    requires room { builder.old.variables + 32 < variable_bound }
-    ensures bits { IfOk result (λ r. r ≡ fresh_word builder.old.variables 32) }
-    ensures variables { OnOk result (builder.new.variables ≡ builder.old.variables + 32) }
+    requires room { builder.old.variables + word_width < variable_bound }
+    ensures bits { IfOk result (λ r. r ≡ fresh_word builder.old.variables word_width) }
+    ensures variables { OnOk result (builder.new.variables ≡ builder.old.variables + word_width) }
     ensures clauses { OnOk result (builder.new.clauses ≡ builder.old.clauses) }
 {
     let mut bits = Bits::new(alloc);
@@ -63,7 +64,7 @@ fn add_fresh(
 ) -> Result<(), Memory>
     requires number { number < length inputs.old.items }
     requires unread { length (slice_index_or inputs.old.items number []) ≡ 0 }
-    requires room { builder.old.variables + 32 < variable_bound }
+    requires room { builder.old.variables + word_width < variable_bound }
     ensures steps { OnOk result (Steps builder.old builder.new inputs.old.items inputs.new.items words.old words.new (nodes.Input number kind)) }
     ensures inputs { OnOk result (length inputs.new.items ≡ length inputs.old.items) }
 {
@@ -103,7 +104,7 @@ pub(crate) fn add_input(
     kind: IntType,
 ) -> Result<(), Memory>
     requires number { number < length inputs.old.items }
-    requires room { builder.old.variables + 32 < variable_bound }
+    requires room { builder.old.variables + word_width < variable_bound }
     ensures steps { OnOk result (Steps builder.old builder.new inputs.old.items inputs.new.items words.old words.new (nodes.Input number kind)) }
     ensures inputs { OnOk result (length inputs.new.items ≡ length inputs.old.items) }
 {

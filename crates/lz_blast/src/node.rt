@@ -4,6 +4,7 @@ ghost use Rattle.std.specs.List.{All};
 ghost use Rattle.lz_base.specs.Words.{value_bound};
 ghost use Rattle.lz_cnf.specs.Models.{variable_bound};
 ghost use Rattle.lz_arith.specs.Bits.{AreBits};
+ghost use Rattle.lz_arith.specs.Sizes.{word_width};
 ghost use Rattle.lz_ssa.specs.declared.node.Node.TheVariants as nodes;
 ghost use Rattle.lz_ssa.specs.NodeValues.{IsNodeOf};
 ghost use Rattle.lz_blast.specs.Counts.{node_variables};
@@ -43,7 +44,7 @@ fn add_unary(
     of: u32,
 ) -> Result<(), Memory>
     requires operand { of < length words.old }
-    requires words { All (AreBits builder.old 32) words.old }
+    requires words { All (AreBits builder.old word_width) words.old }
     requires room { builder.old.variables + node_variables (nodes.Unary op kind of) < variable_bound }
     ensures adds { OnOk result (Adds builder.old builder.new words.old words.new (nodes.Unary op kind of)) }
 {
@@ -64,7 +65,7 @@ fn add_binary(
 ) -> Result<(), Memory>
     requires left { left < length words.old }
     requires right { right < length words.old }
-    requires words { All (AreBits builder.old 32) words.old }
+    requires words { All (AreBits builder.old word_width) words.old }
     requires room { builder.old.variables + node_variables (nodes.Binary op kind left right) < variable_bound }
     ensures adds { OnOk result (Adds builder.old builder.new words.old words.new (nodes.Binary op kind left right)) }
 {
@@ -91,7 +92,7 @@ fn add_convert(
     of: u32,
 ) -> Result<(), Memory>
     requires operand { of < length words.old }
-    requires words { All (AreBits builder.old 32) words.old }
+    requires words { All (AreBits builder.old word_width) words.old }
     ensures adds { OnOk result (Adds builder.old builder.new words.old words.new (nodes.Convert from to of)) }
 {
     let bits = convert_bits(alloc, builder, from, to, &words.items()[of as usize])?;
@@ -111,7 +112,7 @@ fn add_choice(
     requires test { test < length words.old }
     requires yes { yes < length words.old }
     requires no { no < length words.old }
-    requires words { All (AreBits builder.old 32) words.old }
+    requires words { All (AreBits builder.old word_width) words.old }
     requires room { builder.old.variables + node_variables (nodes.Choose test yes no) < variable_bound }
     ensures adds { OnOk result (Adds builder.old builder.new words.old words.new (nodes.Choose test yes no)) }
 {
@@ -137,7 +138,7 @@ pub(crate) fn add_node(
     node: Node,
 ) -> Result<(), Memory>
     requires node { IsNodeOf (length inputs.old.items) (length words.old) node }
-    requires words { All (AreBits builder.old 32) words.old }
+    requires words { All (AreBits builder.old word_width) words.old }
     requires room { builder.old.variables + node_variables node < variable_bound }
     ensures steps { OnOk result (Steps builder.old builder.new inputs.old.items inputs.new.items words.old words.new node) }
     ensures inputs { OnOk result (length inputs.new.items ≡ length inputs.old.items) }

@@ -3,6 +3,7 @@ ghost use Rattle.std.specs.Prelude.{◌≡◌, ◌+◌, ◌<◌, ◌≤◌, IfOk
 ghost use Rattle.lz_cnf.specs.Models.{variable_bound};
 ghost use Rattle.lz_gates.specs.Circuits.{IsLit};
 ghost use Rattle.lz_arith.specs.Bits.{AreBits};
+ghost use Rattle.lz_arith.specs.Sizes.{word_width};
 
 use crate::request::{Operand, Request};
 use lz_arith::{Bits, binary_bits, choose_bits, convert_bits, truth_bit, unary_bits};
@@ -37,7 +38,7 @@ pub fn circuit_of(alloc: Global, request: Request) -> Result<Circuit, Memory> {
 
 /// The literal of an operand at this place.
 fn operand_bit(builder: &mut Builder, operand: Operand, place: u32) -> Result<Lit, Memory>
-    requires place { place < 32 }
+    requires place { place < word_width }
     requires room { builder.old.variables + 1 < variable_bound }
     ensures lit { IfOk result (IsLit builder.new) }
     ensures more { OnOk result (builder.old.variables ≤ builder.new.variables) }
@@ -59,10 +60,10 @@ fn operand_bit(builder: &mut Builder, operand: Operand, place: u32) -> Result<Li
 
 /// The literals of an operand.
 fn operand_bits(alloc: Global, builder: &mut Builder, operand: Operand) -> Result<Bits, Memory>
-    requires room { builder.old.variables + 32 < variable_bound }
-    ensures bits { IfOk result (AreBits builder.new 32) }
+    requires room { builder.old.variables + word_width < variable_bound }
+    ensures bits { IfOk result (AreBits builder.new word_width) }
     ensures more { OnOk result (builder.old.variables ≤ builder.new.variables) }
-    ensures most { OnOk result (builder.new.variables ≤ builder.old.variables + 32) }
+    ensures most { OnOk result (builder.new.variables ≤ builder.old.variables + word_width) }
 {
     let mut bits = Bits::new(alloc);
     for place in 0..32_u32 {

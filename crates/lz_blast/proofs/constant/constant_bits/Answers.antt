@@ -1,5 +1,6 @@
 use Rattle.std.proofs.Common.{arith, ℕ, ◌≡◌, subst}
 use Rattle.lz_arith.specs.Bits.{AreBits}
+use Rattle.lz_arith.specs.Sizes.{word_width}
 use Rattle.lz_blast.proofs.WordsMadeLemmas.{knows_none, knows_more, knows_all}
 use Rattle.lz_blast.proofs.constant.constant_bits.Goals as goal
 
@@ -13,4 +14,4 @@ pub returns-clause-made : goal.returns-clause-made
 returns-clause-made c = knows_all _ _ _ _ _ c.loop-i.invariant (omega arith) c.requires.small
 
 pub returns-clause-bits : goal.returns-clause-bits
-returns-clause-bits c = subst (λ (n : ℕ). AreBits c.args.builder.now n c.loop-i.bits) (let e : c.loop-i._i ≡ 32 = omega arith in e) c.loop-i.invariant.bits_in
+returns-clause-bits c = subst (λ (n : ℕ). AreBits c.args.builder.now n c.loop-i.bits) (let e : c.loop-i._i ≡ word_width = omega arith in e) c.loop-i.invariant.bits_in
