@@ -1,4 +1,5 @@
 ghost use Rattle.std.specs.Prelude.{◌≡◌, ◌<◌, ◌+◌, ◌*◌, ◌^◌, nat_le, if◌then◌else◌, length, map, OnOk, IfOk, [], ◌∷◌, ◌++◌, suc};
+ghost use Rattle.lz_base.specs.Words.{value_bound};
 ghost use Rattle.lz_flat.specs.Programs.{expression, location, instruction, marked, statement, sets};
 ghost use Rattle.lz_flat.specs.Programs as programs;
 ghost use Rattle.lz_lazy.specs.Encoding as spec;
@@ -61,7 +62,7 @@ fn flagged(words: u32, instr: Instr) -> Guarded
 
 /// The mask, or the next one where it is below the size.
 fn wider_mask(mask: u64, size: u32) -> u64
-    requires { mask < 2 ^ 32 }
+    requires { mask < value_bound }
     ensures { result ≡ (if nat_le size mask then mask else 2 * mask + 1) }
 {
     if u64::from(size) <= mask {
