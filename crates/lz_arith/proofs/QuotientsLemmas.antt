@@ -8,6 +8,7 @@ use Rattle.lz_cnf.specs.declared.clause.Lit.{Lit}
 use Rattle.lz_gates.specs.Circuits.{Circuit, Assignment, value, xor, Makes}
 use Rattle.lz_gates.proofs.ExtendingLemmas.{makes_then, makes_so}
 use Rattle.lz_arith.specs.Bits.{bit, word}
+use Rattle.lz_arith.specs.Sizes.{division_variables, division_clauses}
 use Rattle.lz_arith.proofs.DivideLemmas.{small_mod}
 use Rattle.lz_arith.proofs.NumbersLemmas.{negative}
 use Rattle.lz_arith.proofs.SignsLemmas.{word_small, top_is, quotient_number, remainder_number}
@@ -16,18 +17,18 @@ use Rattle.lz_arith.proofs.SignsLemmas.{word_small, top_is, quotient_number, rem
 pub plain_quotient_makes : (old new : Circuit) (left divisor q r : List Lit) → length left ≡ 32
     → Makes old new ((4 * length left + 3) * length left) ((20 * length left + 14) * length left)
     (λ a. 0 < word a divisor → (word a q ≡ word a left / word a divisor) × (word a r ≡ word a left % word a divisor))
-    → Makes old new 4577 22852 (λ a. 0 < word a divisor → word a q ≡ wrapped (int_div (signed Unsigned (word a left)) (signed Unsigned (word a divisor))))
+    → Makes old new division_variables division_clauses (λ a. 0 < word a divisor → word a q ≡ wrapped (int_div (signed Unsigned (word a left)) (signed Unsigned (word a divisor))))
 plain_quotient_makes old new left divisor q r e h =
-    makes_so old new ((4 * length left + 3) * length left) 4577 ((20 * length left + 14) * length left) 22852 _ _ h (rw e (omega arith)) (rw e (omega arith))
+    makes_so old new ((4 * length left + 3) * length left) division_variables ((20 * length left + 14) * length left) division_clauses _ _ h (rw e (omega arith)) (rw e (omega arith))
     (λ a s p some. (p some).0 ∙ sym (small_mod (word a left / word a divisor) value_bound (omega (arith, div-le_self (word a left) (word a divisor), word_small a left e))))
 
 -- without sign the rest is the remainder
 pub plain_remainder_makes : (old new : Circuit) (left divisor q r : List Lit) → length left ≡ 32
     → Makes old new ((4 * length left + 3) * length left) ((20 * length left + 14) * length left)
     (λ a. 0 < word a divisor → (word a q ≡ word a left / word a divisor) × (word a r ≡ word a left % word a divisor))
-    → Makes old new 4577 22852 (λ a. 0 < word a divisor → word a r ≡ wrapped (int_rem (signed Unsigned (word a left)) (signed Unsigned (word a divisor))))
+    → Makes old new division_variables division_clauses (λ a. 0 < word a divisor → word a r ≡ wrapped (int_rem (signed Unsigned (word a left)) (signed Unsigned (word a divisor))))
 plain_remainder_makes old new left divisor q r e h =
-    makes_so old new ((4 * length left + 3) * length left) 4577 ((20 * length left + 14) * length left) 22852 _ _ h (rw e (omega arith)) (rw e (omega arith))
+    makes_so old new ((4 * length left + 3) * length left) division_variables ((20 * length left + 14) * length left) division_clauses _ _ h (rw e (omega arith)) (rw e (omega arith))
     (λ a s p some. (p some).1 ∙ sym (small_mod (word a left % word a divisor) value_bound (omega (arith, mod-le (word a left) (word a divisor), word_small a left e))))
 
 -- what the word with the other sign where the literal is true says, at 32 bits
@@ -61,9 +62,9 @@ pub signed_quotient_makes : (one two three four five six : Circuit) (left diviso
     (λ a. 0 < word a held_by → (word a q ≡ word a held_size / word a held_by) × (word a rest ≡ word a held_size % word a held_by))
     → Makes four five 1 4 (λ a. value a sign ≡ xor (value a (get_or left 31 d)) (value a (get_or divisor 31 e)))
     → Makes five six (4 * length held) (20 * length held) (λ a. word a r ≡ cond (value a sign) ((2 ^ length held - word a held) % 2 ^ length held) (word a held))
-    → Makes one six 4577 22852 (λ a. 0 < word a divisor → word a r ≡ wrapped (int_div (signed Int (word a left)) (signed Int (word a divisor))))
+    → Makes one six division_variables division_clauses (λ a. 0 < word a divisor → word a r ≡ wrapped (int_div (signed Int (word a left)) (signed Int (word a divisor))))
 signed_quotient_makes one two three four five six left divisor size by held_size held_by q rest held r sign d e ll ld hs hb hl hq lq h k l m n =
-    makes_so one six (128 + 128 + 4192 + 1 + 128) 4577 (640 + 640 + 20928 + 4 + 640) 22852 _ _
+    makes_so one six (128 + 128 + 4192 + 1 + 128) division_variables (640 + 640 + 20928 + 4 + 640) division_clauses _ _
     (makes_then one five six (128 + 128 + 4192 + 1) 128 (640 + 640 + 20928 + 4) 640 _ _
     (λ a. Sizes a × (0 < word a by → (word a q ≡ word a size / word a by) × (word a rest ≡ word a size % word a by)) × (value a sign ≡ xor (value a (get_or left 31 d)) (value a (get_or divisor 31 e))) × Turned sign held r a)
     (makes_then one four five (128 + 128 + 4192) 1 (640 + 640 + 20928) 4 _ _
@@ -96,9 +97,9 @@ pub signed_remainder_makes : (one two three four five : Circuit) (left divisor s
     → Makes three four ((4 * length held_size + 3) * length held_size) ((20 * length held_size + 14) * length held_size)
     (λ a. 0 < word a held_by → (word a q ≡ word a held_size / word a held_by) × (word a rest ≡ word a held_size % word a held_by))
     → Makes four five (4 * length held) (20 * length held) (λ a. word a r ≡ cond (value a (get_or left 31 d)) ((2 ^ length held - word a held) % 2 ^ length held) (word a held))
-    → Makes one five 4577 22852 (λ a. 0 < word a divisor → word a r ≡ wrapped (int_rem (signed Int (word a left)) (signed Int (word a divisor))))
+    → Makes one five division_variables division_clauses (λ a. 0 < word a divisor → word a r ≡ wrapped (int_rem (signed Int (word a left)) (signed Int (word a divisor))))
 signed_remainder_makes one two three four five left divisor size by held_size held_by q rest held r d e ll ld hs hb hl hq lq h k l n =
-    makes_so one five (128 + 128 + 4192 + 128) 4577 (640 + 640 + 20928 + 640) 22852 _ _
+    makes_so one five (128 + 128 + 4192 + 128) division_variables (640 + 640 + 20928 + 640) division_clauses _ _
     (makes_then one four five (128 + 128 + 4192) 128 (640 + 640 + 20928) 640 _ _
     (λ a. Turned (get_or left 31 d) left size a × Turned (get_or divisor 31 e) divisor by a × (0 < word a by → (word a q ≡ word a size / word a by) × (word a rest ≡ word a size % word a by)) × Turned (get_or left 31 d) held r a)
     (makes_then one three four (128 + 128) 4192 (640 + 640) 20928 _ _
@@ -135,11 +136,11 @@ unless_zero_makes one two three divisor bits r test ld lb h k =
 
 -- and 0 where it is 0
 pub masked_makes : (one two three : Circuit) (divisor bits held r : List Lit) (W : Assignment → ℕ) → held ≡ bits
-    → Makes one two 4577 22852 (λ a. 0 < word a divisor → word a bits ≡ W a)
+    → Makes one two division_variables division_clauses (λ a. 0 < word a divisor → word a bits ≡ W a)
     → Makes two three 33 129 (λ a. word a r ≡ cond (eqb (word a divisor) 0) 0 (word a held))
     → Makes one three 4610 22981 (λ a. word a r ≡ cond (eqb (word a divisor) 0) 0 (W a))
 masked_makes one two three divisor bits held r W e h k =
-    makes_then one two three 4577 33 22852 129 _ _ (λ a. word a r ≡ cond (eqb (word a divisor) 0) 0 (W a)) h k
+    makes_then one two three division_variables 33 division_clauses 129 _ _ (λ a. word a r ≡ cond (eqb (word a divisor) 0) 0 (W a)) h k
     (λ a p q. q ∙ ap (λ (xs : List Lit). cond (eqb (word a divisor) 0) 0 (word a xs)) e ∙ by (word a divisor) (word a bits) (W a) p)
   where
     by : (d w v : ℕ) → (0 < d → w ≡ v) → cond (eqb d 0) 0 w ≡ cond (eqb d 0) 0 v

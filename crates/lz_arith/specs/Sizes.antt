@@ -70,6 +70,15 @@ binary_clauses BitOr = 128
 binary_clauses Both = 69
 binary_clauses Either = 69
 
+-- of a quotient or a remainder of two words, where the divisor is not 0: a step for each bit, the sign of the
+-- result, and a change of sign of each word and of the result
+abbrev pub division_variables : ℕ
+division_variables = (4 * word_width + 3) * word_width + 3 * (4 * word_width) + 1
+
+-- its clauses
+abbrev pub division_clauses : ℕ
+division_clauses = (20 * word_width + 14) * word_width + 3 * (20 * word_width) + 4
+
 -- of the truth test of a word of so many bits
 abbrev pub test_variables : ℕ
 test_variables = 1

@@ -4,7 +4,7 @@ ghost use Rattle.lz_base.specs.Words.{signed, wrapped, binary_value};
 ghost use Rattle.lz_cnf.specs.Models.{variable_bound};
 ghost use Rattle.lz_gates.specs.Circuits.{Assignment, value, IsLit, AreLits, Makes};
 ghost use Rattle.lz_arith.specs.Bits.{bit, word, negations, AreBits};
-ghost use Rattle.lz_arith.specs.Sizes.{word_width};
+ghost use Rattle.lz_arith.specs.Sizes.{word_width, binary_variables, binary_clauses, division_variables, division_clauses, test_variables, test_clauses};
 
 use crate::add::{add_with_carry, minus_where};
 use crate::choose::{choose_words, mask_word};
@@ -26,7 +26,6 @@ fn divide_step(
     requires rest { AreLits builder.old rest.now }
     requires divisor { AreBits builder.old (length rest.now) divisor.now }
     requires digit { IsLit builder.old digit }
-    requires wide { length rest.now < 1048576 }
     requires room { builder.old.variables + 4 * length rest.now + 3 < variable_bound }
     ensures fits { IfOk result (λ r. IsLit builder.new r.0) }
     ensures bits { IfOk result (λ r. AreBits builder.new (length rest.now) r.1) }
@@ -54,7 +53,6 @@ pub(crate) fn divide_words(
 ) -> Result<(Bits, Bits), Memory>
     requires left { AreLits builder.old left.now }
     requires divisor { AreBits builder.old (length left.now) divisor.now }
-    requires wide { length left.now < 1048576 }
     requires room { builder.old.variables + (4 * length left.now + 3) * length left.now < variable_bound }
     ensures quotient { IfOk result (λ r. AreBits builder.new (length left.now) r.0) }
     ensures rest { IfOk result (λ r. AreBits builder.new (length left.now) r.1) }
@@ -83,9 +81,9 @@ fn signed_quotient(
 ) -> Result<Bits, Memory>
     requires left { AreBits builder.old word_width left.now }
     requires divisor { AreBits builder.old word_width divisor.now }
-    requires room { builder.old.variables + 4577 < variable_bound }
+    requires room { builder.old.variables + division_variables < variable_bound }
     ensures bits { IfOk result (AreBits builder.new word_width) }
-    ensures made { IfOk result (λ r. Makes builder.old builder.new 4577 22852
+    ensures made { IfOk result (λ r. Makes builder.old builder.new division_variables division_clauses
         (λ a. 0 < word a divisor.now → word a r ≡ wrapped (int_div (signed IntType.Int (word a left.now)) (signed IntType.Int (word a divisor.now))))) }
 {
     let size = minus_where(alloc, builder, left[31], left)?;
@@ -105,9 +103,9 @@ fn signed_remainder(
 ) -> Result<Bits, Memory>
     requires left { AreBits builder.old word_width left.now }
     requires divisor { AreBits builder.old word_width divisor.now }
-    requires room { builder.old.variables + 4577 < variable_bound }
+    requires room { builder.old.variables + division_variables < variable_bound }
     ensures bits { IfOk result (AreBits builder.new word_width) }
-    ensures made { IfOk result (λ r. Makes builder.old builder.new 4577 22852
+    ensures made { IfOk result (λ r. Makes builder.old builder.new division_variables division_clauses
         (λ a. 0 < word a divisor.now → word a r ≡ wrapped (int_rem (signed IntType.Int (word a left.now)) (signed IntType.Int (word a divisor.now))))) }
 {
     let size = minus_where(alloc, builder, left[31], left)?;
@@ -126,9 +124,9 @@ fn unless_zero(
 ) -> Result<Bits, Memory>
     requires divisor { AreBits builder.old word_width divisor.now }
     requires bits { AreBits builder.old word_width bits.now }
-    requires room { builder.old.variables + 33 < variable_bound }
+    requires room { builder.old.variables + test_variables + word_width < variable_bound }
     ensures bits { IfOk result (AreBits builder.new word_width) }
-    ensures made { IfOk result (λ r. Makes builder.old builder.new 33 129
+    ensures made { IfOk result (λ r. Makes builder.old builder.new (test_variables + word_width) (test_clauses word_width + 3 * word_width)
         (λ a. word a r ≡ (if word a divisor.now == 0 then 0 else word a bits.now))) }
 {
     let test = truth_test(alloc, builder, divisor)?;
@@ -145,9 +143,9 @@ fn plain_quotient(
 ) -> Result<Bits, Memory>
     requires left { AreBits builder.old word_width left.now }
     requires divisor { AreBits builder.old word_width divisor.now }
-    requires room { builder.old.variables + 4577 < variable_bound }
+    requires room { builder.old.variables + division_variables < variable_bound }
     ensures bits { IfOk result (AreBits builder.new word_width) }
-    ensures made { IfOk result (λ r. Makes builder.old builder.new 4577 22852
+    ensures made { IfOk result (λ r. Makes builder.old builder.new division_variables division_clauses
         (λ a. 0 < word a divisor.now → word a r ≡ wrapped (int_div (signed IntType.Unsigned (word a left.now)) (signed IntType.Unsigned (word a divisor.now))))) }
 {
     let (quotient, _) = divide_words(alloc, builder, left, divisor)?;
@@ -164,9 +162,9 @@ fn quotient_of_kind(
 ) -> Result<Bits, Memory>
     requires left { AreBits builder.old word_width left.now }
     requires divisor { AreBits builder.old word_width divisor.now }
-    requires room { builder.old.variables + 4577 < variable_bound }
+    requires room { builder.old.variables + division_variables < variable_bound }
     ensures bits { IfOk result (AreBits builder.new word_width) }
-    ensures made { IfOk result (λ r. Makes builder.old builder.new 4577 22852
+    ensures made { IfOk result (λ r. Makes builder.old builder.new division_variables division_clauses
         (λ a. 0 < word a divisor.now → word a r ≡ wrapped (int_div (signed t (word a left.now)) (signed t (word a divisor.now))))) }
 {
     match t {
@@ -185,9 +183,9 @@ pub(crate) fn quotient_word(
 ) -> Result<Bits, Memory>
     requires left { AreBits builder.old word_width left.now }
     requires divisor { AreBits builder.old word_width divisor.now }
-    requires room { builder.old.variables + 4610 < variable_bound }
+    requires room { builder.old.variables + binary_variables Binary.Div < variable_bound }
     ensures bits { IfOk result (AreBits builder.new word_width) }
-    ensures made { IfOk result (λ r. Makes builder.old builder.new 4610 22981 (λ a. word a r ≡ binary_value Binary.Div (word a left.now) (word a divisor.now) t)) }
+    ensures made { IfOk result (λ r. Makes builder.old builder.new (binary_variables Binary.Div) (binary_clauses Binary.Div) (λ a. word a r ≡ binary_value Binary.Div (word a left.now) (word a divisor.now) t)) }
 {
     let bits = quotient_of_kind(alloc, builder, t, left, divisor)?;
     let masked = unless_zero(alloc, builder, divisor, bits.items())?;
@@ -203,9 +201,9 @@ fn plain_remainder(
 ) -> Result<Bits, Memory>
     requires left { AreBits builder.old word_width left.now }
     requires divisor { AreBits builder.old word_width divisor.now }
-    requires room { builder.old.variables + 4577 < variable_bound }
+    requires room { builder.old.variables + division_variables < variable_bound }
     ensures bits { IfOk result (AreBits builder.new word_width) }
-    ensures made { IfOk result (λ r. Makes builder.old builder.new 4577 22852
+    ensures made { IfOk result (λ r. Makes builder.old builder.new division_variables division_clauses
         (λ a. 0 < word a divisor.now → word a r ≡ wrapped (int_rem (signed IntType.Unsigned (word a left.now)) (signed IntType.Unsigned (word a divisor.now))))) }
 {
     let (_, rest) = divide_words(alloc, builder, left, divisor)?;
@@ -222,9 +220,9 @@ fn remainder_of_kind(
 ) -> Result<Bits, Memory>
     requires left { AreBits builder.old word_width left.now }
     requires divisor { AreBits builder.old word_width divisor.now }
-    requires room { builder.old.variables + 4577 < variable_bound }
+    requires room { builder.old.variables + division_variables < variable_bound }
     ensures bits { IfOk result (AreBits builder.new word_width) }
-    ensures made { IfOk result (λ r. Makes builder.old builder.new 4577 22852
+    ensures made { IfOk result (λ r. Makes builder.old builder.new division_variables division_clauses
         (λ a. 0 < word a divisor.now → word a r ≡ wrapped (int_rem (signed t (word a left.now)) (signed t (word a divisor.now))))) }
 {
     match t {
@@ -243,9 +241,9 @@ pub(crate) fn remainder_word(
 ) -> Result<Bits, Memory>
     requires left { AreBits builder.old word_width left.now }
     requires divisor { AreBits builder.old word_width divisor.now }
-    requires room { builder.old.variables + 4610 < variable_bound }
+    requires room { builder.old.variables + binary_variables Binary.Rem < variable_bound }
     ensures bits { IfOk result (AreBits builder.new word_width) }
-    ensures made { IfOk result (λ r. Makes builder.old builder.new 4610 22981 (λ a. word a r ≡ binary_value Binary.Rem (word a left.now) (word a divisor.now) t)) }
+    ensures made { IfOk result (λ r. Makes builder.old builder.new (binary_variables Binary.Rem) (binary_clauses Binary.Rem) (λ a. word a r ≡ binary_value Binary.Rem (word a left.now) (word a divisor.now) t)) }
 {
     let bits = remainder_of_kind(alloc, builder, t, left, divisor)?;
     let masked = unless_zero(alloc, builder, divisor, bits.items())?;

@@ -1,7 +1,7 @@
 //! The word operators of the checked language as circuits.
-ghost use Rattle.std.specs.Prelude.{◌≡◌, ℕ, ◌+◌, ◌*◌, ◌<◌, ◌≤◌, true, ◌^◌, ◌%◌, ◌&&◌, ◌||◌, IfOk, OnOk, OnErr, IsErr, length, if◌then◌else◌, not, ◌==◌, int_lt, false};
+ghost use Rattle.std.specs.Prelude.{◌≡◌, ℕ, ◌+◌, ◌*◌, ◌<◌, ◌≤◌, true, ◌%◌, ◌&&◌, ◌||◌, IfOk, OnOk, OnErr, IsErr, length, if◌then◌else◌, not, ◌==◌, int_lt, false};
 ghost use Rattle.lz_cnf.specs.Models.{negated, variable_bound};
-ghost use Rattle.lz_base.specs.Words.{truth, is_true, signed, unary_value, binary_value, converted};
+ghost use Rattle.lz_base.specs.Words.{value_bound, truth, is_true, signed, unary_value, binary_value, converted};
 ghost use Rattle.lz_gates.specs.Circuits.{Assignment, Satisfies, value, IsLit, AreLits, Makes};
 ghost use Rattle.lz_arith.specs.Bits.{word, AreBits, is_negative};
 ghost use Rattle.lz_arith.specs.Sizes.{width, word_width, unary_variables, unary_clauses, binary_variables, binary_clauses, choice_variables, choice_clauses, test_variables, test_clauses};
@@ -35,9 +35,9 @@ fn truth_word(alloc: Global, builder: &Builder, lit: Lit) -> Result<Bits, Memory
 /// `!`: whether the word is 0.
 fn not_word(alloc: Global, builder: &mut Builder, bits: &[Lit]) -> Result<Bits, Memory>
     requires bits { AreBits builder.old word_width bits.now }
-    requires room { builder.old.variables + 1 < variable_bound }
+    requires room { builder.old.variables + unary_variables Unary.Not < variable_bound }
     ensures bits { IfOk result (AreBits builder.new word_width) }
-    ensures made { IfOk result (λ r. Makes builder.old builder.new 1 33 (λ a. word a r ≡ truth (word a bits.now == 0))) }
+    ensures made { IfOk result (λ r. Makes builder.old builder.new (unary_variables Unary.Not) (unary_clauses Unary.Not) (λ a. word a r ≡ truth (word a bits.now == 0))) }
 {
     let test = truth_test(alloc, builder, bits)?;
     let result = truth_word(alloc, builder, test.negated())?;
@@ -81,10 +81,10 @@ fn sum_word(
 ) -> Result<Bits, Memory>
     requires left { AreBits builder.old word_width left.now }
     requires right { AreBits builder.old word_width right.now }
-    requires room { builder.old.variables + 96 < variable_bound }
+    requires room { builder.old.variables + binary_variables Binary.Add < variable_bound }
     ensures bits { IfOk result (AreBits builder.new word_width) }
-    ensures made { IfOk result (λ r. Makes builder.old builder.new 96 448
-        (λ a. word a r ≡ (word a left.now + word a right.now) % 2 ^ 32)) }
+    ensures made { IfOk result (λ r. Makes builder.old builder.new (binary_variables Binary.Add) (binary_clauses Binary.Add)
+        (λ a. word a r ≡ (word a left.now + word a right.now) % value_bound)) }
 {
     let off = builder.falsity();
     let sum = add_words(alloc, builder, left, right, off)?;
@@ -123,9 +123,9 @@ fn equality_word(
 ) -> Result<Bits, Memory>
     requires left { AreBits builder.old word_width left.now }
     requires right { AreBits builder.old word_width right.now }
-    requires room { builder.old.variables + 33 < variable_bound }
+    requires room { builder.old.variables + binary_variables Binary.Eq < variable_bound }
     ensures bits { IfOk result (AreBits builder.new word_width) }
-    ensures made { IfOk result (λ r. Makes builder.old builder.new 33 161
+    ensures made { IfOk result (λ r. Makes builder.old builder.new (binary_variables Binary.Eq) (binary_clauses Binary.Eq)
         (λ a. word a r ≡ truth (if turned then not (word a left.now == word a right.now) else (word a left.now == word a right.now)))) }
 {
     let lit = differ(alloc, builder, left, right)?;
@@ -150,9 +150,9 @@ fn both_word(
 ) -> Result<Bits, Memory>
     requires left { AreBits builder.old word_width left.now }
     requires right { AreBits builder.old word_width right.now }
-    requires room { builder.old.variables + 3 < variable_bound }
+    requires room { builder.old.variables + binary_variables Binary.Both < variable_bound }
     ensures bits { IfOk result (AreBits builder.new word_width) }
-    ensures made { IfOk result (λ r. Makes builder.old builder.new 3 69
+    ensures made { IfOk result (λ r. Makes builder.old builder.new (binary_variables Binary.Both) (binary_clauses Binary.Both)
         (λ a. word a r ≡ truth (is_true (word a left.now) && is_true (word a right.now)))) }
 {
     let first = truth_test(alloc, builder, left)?;
@@ -171,9 +171,9 @@ fn either_word(
 ) -> Result<Bits, Memory>
     requires left { AreBits builder.old word_width left.now }
     requires right { AreBits builder.old word_width right.now }
-    requires room { builder.old.variables + 3 < variable_bound }
+    requires room { builder.old.variables + binary_variables Binary.Either < variable_bound }
     ensures bits { IfOk result (AreBits builder.new word_width) }
-    ensures made { IfOk result (λ r. Makes builder.old builder.new 3 69
+    ensures made { IfOk result (λ r. Makes builder.old builder.new (binary_variables Binary.Either) (binary_clauses Binary.Either)
         (λ a. word a r ≡ truth (is_true (word a left.now) || is_true (word a right.now)))) }
 {
     let first = truth_test(alloc, builder, left)?;
@@ -193,9 +193,9 @@ fn left_shift_word(
 ) -> Result<Bits, Memory>
     requires left { AreBits builder.old word_width left.now }
     requires right { AreBits builder.old word_width right.now }
-    requires room { builder.old.variables + 160 < variable_bound }
+    requires room { builder.old.variables + binary_variables Binary.Shl < variable_bound }
     ensures bits { IfOk result (AreBits builder.new word_width) }
-    ensures made { IfOk result (λ r. Makes builder.old builder.new 160 960
+    ensures made { IfOk result (λ r. Makes builder.old builder.new (binary_variables Binary.Shl) (binary_clauses Binary.Shl)
         (λ a. word a r ≡ binary_value Binary.Shl (word a left.now) (word a right.now) t)) }
 {
     let _ = t;
@@ -226,9 +226,9 @@ fn right_shift_word(
 ) -> Result<Bits, Memory>
     requires left { AreBits builder.old word_width left.now }
     requires right { AreBits builder.old word_width right.now }
-    requires room { builder.old.variables + 160 < variable_bound }
+    requires room { builder.old.variables + binary_variables Binary.Shr < variable_bound }
     ensures bits { IfOk result (AreBits builder.new word_width) }
-    ensures made { IfOk result (λ r. Makes builder.old builder.new 160 960
+    ensures made { IfOk result (λ r. Makes builder.old builder.new (binary_variables Binary.Shr) (binary_clauses Binary.Shr)
         (λ a. word a r ≡ binary_value Binary.Shr (word a left.now) (word a right.now) t)) }
 {
     let fill = fill_of(builder, t, left);

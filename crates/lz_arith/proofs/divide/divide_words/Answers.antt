@@ -17,7 +17,6 @@ divide_step-requires c =
       rest = rest.lits;
       divisor = bits_of c.loop-i.builder _ _ _ _ (sym rest.length) refl c.loop-i.invariant.divisor_in;
       digit = c.loop-i.invariant.lefts _ _ (omega (arith, c.loop-i-test.true));
-      wide = omega (arith, rest.length, c.requires.wide);
       room =
           let room = digits_room (length c.args.left.now) c.loop-i.i c.loop-i.builder.variables c.args.builder.now.variables c.loop-i-test.true c.loop-i.invariant.made.variables_most c.requires.room in
           omega (arith, rest.length, room);
