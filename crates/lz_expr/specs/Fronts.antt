@@ -1,4 +1,4 @@
--- Trusted: how far tokens begin a text of a language, and what is answered where they go no further.
+-- Inner: how far tokens begin a text of a language, and what is answered where they go no further.
 use Rattle.std.specs.Prelude.{◌≡◌, ℕ, ◌+◌, ◌<◌, ◌≤◌, Bool, List, ◌++◌, length, slice_range, if◌then◌else◌}
 use Rattle.lz_tree.specs.declared.token.Token.{Token}
 use Rattle.lz_tree.specs.declared.token.Tokens.{Tokens}

@@ -1,4 +1,4 @@
--- Trusted: what a thread answers on its next action, by what it may do before and behind it.
+-- Inner: what a thread answers on its next action, by what it may do before and behind it.
 use Rattle.std.specs.Prelude.{◌≡◌, ◌⊎◌, ℕ, zero, ◌<◌, ◌-◌, ◌%◌, ◌==◌, min, if◌then◌else◌, List, [], ◌∷◌, Option, Some, None, ⊤}
 use Rattle.lz_base.specs.Words.{value_bound}
 use Rattle.lz_tree.specs.ScopedTrees.{ScopedProgram}

@@ -1,4 +1,4 @@
--- Trusted: the programs whose threads can run, how a thread begins, and its answers as code gives them.
+-- Inner: the programs whose threads can run, how a thread begins, and its answers as code gives them.
 use Rattle.std.specs.Prelude.{ℕ, ◌<◌, Bool, true, false, List, [], ◌∷◌, Option, Some, None, ⊤}
 use Rattle.std.specs.List.{All}
 use Rattle.lz_base.specs.Words.{value_bound}

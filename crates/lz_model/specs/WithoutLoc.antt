@@ -1,4 +1,4 @@
--- Trusted: Loc left out, of what threads may do and of runs.
+-- Inner: Loc left out, of what threads may do and of runs.
 use Rattle.std.specs.Prelude.{◌≡◌, Bool, true, false, List, [], ◌∷◌}
 use Rattle.lz_model.specs.declared.actions.Event.{Event}
 use Rattle.lz_model.specs.Actions.{Act, is_loc}

@@ -1,4 +1,4 @@
--- Trusted: what a refusal of a schedule text says.
+-- Inner: what a refusal of a schedule text says.
 use Rattle.std.specs.Prelude.{ℕ, List, ⊤}
 use Rattle.lz_model.specs.ScheduleText.{IsNoSchedule}
 use Rattle.lz_replay.specs.declared.error.ScheduleError.{ScheduleError}

@@ -1,4 +1,4 @@
--- Trusted: the statements that a thread can run: their expressions fit, and the elements of what they declare have numbers below 2 ^ 32.
+-- Inner: the statements that a thread can run: their expressions fit, and the elements of what they declare have numbers below 2 ^ 32.
 use Rattle.std.specs.Prelude.{⊤, List, [], ◌∷◌, Option, Some, None}
 use Rattle.lz_tree.specs.ScopedTrees.{ScopedExpression, ScopedInitializer, nothing, single, listed, ScopedInitDeclarator, ScopedStatement, empty, eval, block, declare, when, while, do_while, for, break, continue, return, label, ScopedBranch, absent, branch, ScopedStatements, nil, cons}
 use Rattle.lz_turns.specs.Fits.{HasNumbers, IsFit, AreFit}

@@ -1,4 +1,4 @@
--- Trusted: the answer of a store to an action, and its condition.
+-- Inner: the answer of a store to an action, and its condition.
 use Rattle.std.specs.Prelude.{ℕ, ◌≤◌, ⊤}
 use Rattle.lz_base.specs.Limits.{slot_limit}
 use Rattle.lz_model.specs.declared.actions.Action.{Action}

@@ -1,4 +1,4 @@
--- Trusted: the state that the parts of a store stand for.
+-- Inner: the state that the parts of a store stand for.
 use Rattle.std.specs.Prelude.{◌<◌}
 use Rattle.std.specs.Vec.{vec_capacity}
 use Rattle.lz_model.specs.Store.{State}

@@ -1,4 +1,4 @@
--- Trusted: the trees that a thread can run: their constants are words, and the elements of their objects have numbers below 2 ^ 32.
+-- Inner: the trees that a thread can run: their constants are words, and the elements of their objects have numbers below 2 ^ 32.
 use Rattle.std.specs.Prelude.{◌+◌, ◌<◌, ◌≤◌, ⊤, List, [], ◌∷◌}
 use Rattle.lz_base.specs.Words.{value_bound}
 use Rattle.lz_tree.specs.declared.scoped.Object.{Object}
