@@ -3,7 +3,7 @@ use Rattle.std.specs.Prelude.{◌≡◌, ◌⊎◌, ℕ, ◌^◌, codes, Bool, t
 use Rattle.std.specs.List.{list_all}
 use Rattle.std.specs.Char.{is_ascii_digit}
 use Rattle.std.specs.Str.Parse.{digits_value}
-use Rattle.lz_cli.specs.Limits.{default_unwind, greatest_unwind}
+use Rattle.lz_cli.specs.Limits.{default_unwind, greatest_unwind, digit_limit}
 
 -- the word begins with `-` (45)
 abbrev pub begins_with_dash : List ℕ → Bool
@@ -26,7 +26,7 @@ some_where false number = None
 
 -- the word is one to twenty decimal digits
 abbrev pub is_number : List ℕ → Bool
-is_number word = nat_lt 0 (length word) && (nat_lt (length word) 21 && list_all is_ascii_digit word)
+is_number word = nat_lt 0 (length word) && (nat_le (length word) digit_limit && list_all is_ascii_digit word)
 
 -- the number that such a word writes, where 64 bits hold it
 abbrev pub number_of : List ℕ → Option ℕ

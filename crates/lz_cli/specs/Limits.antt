@@ -29,6 +29,10 @@ conflict_limit = 100000
 abbrev pub greatest_unwind : ℕ
 greatest_unwind = 100
 
+-- the most digits with which a word may say it
+abbrev pub digit_limit : ℕ
+digit_limit = 20
+
 -- with so many turns and rounds
 abbrev pub within : ℕ → ℕ → Bounds
 within turns rounds = record { unwind = turns; rounds = rounds; conflicts = conflict_limit }

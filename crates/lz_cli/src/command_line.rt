@@ -6,7 +6,7 @@ ghost use Rattle.std.specs.Char.{is_ascii_digit};
 ghost use Rattle.lz_cli.specs.CommandLine as spec;
 ghost use Rattle.lz_cli.specs.CommandLine.{begins_with_dash, IsFileName, IsProofName, IsBoundedName, IsCheckName, IsPlainReplay, IsBoundedReplay, IsReplayName, turns_of};
 
-use crate::limits::{DEFAULT_UNWIND, GREATEST_UNWIND};
+use crate::limits::{DEFAULT_UNWIND, DIGIT_LIMIT, GREATEST_UNWIND};
 use lz_base::{Name, Sequence};
 
 /// The words of a command line after the program's name.
@@ -209,7 +209,7 @@ fn is_number(word: &str) -> bool
     ensures { result ≡ spec.is_number word.now }
 {
     let bytes = word.as_bytes();
-    bytes.len() > 0 && (bytes.len() < 21 && are_digits(bytes))
+    bytes.len() > 0 && (bytes.len() <= DIGIT_LIMIT && are_digits(bytes))
 }
 
 /// The number that a word writes, where 64 bits hold it.

@@ -8,6 +8,9 @@ pub const DEFAULT_UNWIND: u32 = 2;
 /// The greatest number of turns that a word may say.
 pub const GREATEST_UNWIND: u64 = 100;
 
+/// The most digits with which a word may say it.
+pub const DIGIT_LIMIT: usize = 20;
+
 /// The rounds that a schedule may take, where no word says it.
 pub const DEFAULT_ROUNDS: u32 = 2;
 
