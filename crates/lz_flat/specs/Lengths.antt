@@ -1,13 +1,14 @@
 -- Inner: the lengths of the elements that programs name.
 use Rattle.std.specs.Prelude.{ℕ, ◌≤◌, List, ⊤}
 use Rattle.std.specs.List.{AllByRecursion}
+use Rattle.lz_base.specs.Limits.{length_limit}
 use Rattle.lz_flat.specs.Programs.{Expression, constant, word, element, unary, binary, convert, choose, Location, Instruction, sets, takes, assumes, checks, skips, MarkedInstruction, FlatProgram, Statement, StraightProgram}
 
--- from 1 to 4,096
+-- from 1 to the most that an array may have
 abbrev pub IsLength : ℕ → Type 0
-IsLength len = (1 ≤ len) × (len ≤ 4096)
+IsLength len = (1 ≤ len) × (len ≤ length_limit)
 
--- the length of each element in the expression is from 1 to 4,096
+-- the length of each element in the expression is one of an array
 abbrev pub HasLengths : Expression → Type 0
 HasLengths (constant v) = ⊤
 HasLengths (word place) = ⊤

@@ -15,6 +15,7 @@ use Rattle.lz_model.proofs.OneRunLemmas.{read_finds, woken_is, found_is}
 use Rattle.lz_machine.specs.Threads.{Standing, going, failed, stopped, ended, spent, Thread, MayGo, MayDo}
 use Rattle.lz_machine.specs.Answers.{reads, acts, has_ended, is_cut, read_back, woken_by, HasChosen, StandsFor, HasChoice, Answers}
 use Rattle.lz_replay.specs.Stands.{Same, IsNext}
+use Rattle.lz_replay.specs.Taking.{room}
 
 -- ---- actions and choices
 
@@ -90,7 +91,7 @@ signal_made s t cond_ u goes =
     below false c e h = absurd cc
 
 -- a signal that wakes the chosen thread, which is among the first, is answered
-signal_chosen : (s : State) (t cond_ choice : ℕ) (w v : Option ℕ) → length s.threads ≤ 17 → w ≡ woken_by choice → choice_of (Signal cond_ v) ≡ Some choice → act s t (Signal cond_ v) ≢ blocked
+signal_chosen : (s : State) (t cond_ choice : ℕ) (w v : Option ℕ) → length s.threads ≤ room → w ≡ woken_by choice → choice_of (Signal cond_ v) ≡ Some choice → act s t (Signal cond_ v) ≢ blocked
     → choice_of (Signal cond_ w) ≡ Some choice
 signal_chosen s t cond_ choice w v few is chosen goes = by (eqb choice 0) refl v chosen goes
   where
@@ -107,7 +108,7 @@ signal_chosen s t cond_ choice w v few is chosen goes = by (eqb choice 0) refl v
         ap (λ (x : Option ℕ). choice_of (Signal cond_ x)) (woken_is_at false h) ∙ ap (λ (x : ℕ). Some x) (small u (same_Some (u + 1) choice c) (signal_made s t cond_ u g))
 
 -- what stands for an answered action, has the choice and goes: then the answered one has the choice
-other_chosen : (a o : Action) (choice : ℕ) (s : State) (t : ℕ) → length s.threads ≤ 17 → HasChosen choice a → StandsFor a o → choice_of o ≡ Some choice → act s t o ≢ blocked → choice_of a ≡ Some choice
+other_chosen : (a o : Action) (choice : ℕ) (s : State) (t : ℕ) → length s.threads ≤ room → HasChosen choice a → StandsFor a o → choice_of o ≡ Some choice → act s t o ≢ blocked → choice_of a ≡ Some choice
 other_chosen Loc o choice s t few is e chosen goes = ap choice_of (sym e) ∙ chosen
 other_chosen (Input v) o choice s t few is e chosen goes = ap choice_of (sym e) ∙ chosen
 other_chosen (Check v kind) o choice s t few is e chosen goes = ap choice_of (sym e) ∙ chosen
@@ -171,7 +172,7 @@ module _ (p : ScopedProgram) (n : ℕ) where
       pub act_here : choice_of action ≡ Some choice → Same (λ acts. MayDo p n before (at line action ∷ acts)) (MayDo p n after)
       act_here chosen = record { there = λ list h. (behind_act (at line action) list chosen h).3; back = λ list h. act_behind list chosen h }
 
-      pub act_other : (s : State) (t : ℕ) → length s.threads ≤ 17 → choice_of action ≢ Some choice → (a : Act) → MayDo p n before (a ∷ []) → choice_of a.action ≡ Some choice → act s t a.action ≢ blocked → ⊥
+      pub act_other : (s : State) (t : ℕ) → length s.threads ≤ room → choice_of action ≢ Some choice → (a : Act) → MayDo p n before (a ∷ []) → choice_of a.action ≡ Some choice → act s t a.action ≢ blocked → ⊥
       act_other s t few other a h chosen goes =
           let b = behind_act a [] chosen h in
           let o : choice_of b.0 ≡ Some choice = sym (ap (λ (x : Act). choice_of x.action) b.1) ∙ chosen in

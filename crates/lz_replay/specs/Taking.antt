@@ -1,5 +1,6 @@
 -- Inner: the next action of a thread by the choice of a step.
-use Rattle.std.specs.Prelude.{◌≡◌, ◌≢◌, ℕ, ◌<◌, ◌≤◌, ◌==◌, Bool, false, ◌&&◌, nat_lt, List, [], ◌∷◌, ◌++◌, length, slice_index, slice_index_or, Option, Some, None, ⊤}
+use Rattle.std.specs.Prelude.{◌≡◌, ◌≢◌, ℕ, suc, ◌<◌, ◌≤◌, ◌==◌, Bool, false, ◌&&◌, nat_lt, List, [], ◌∷◌, ◌++◌, length, slice_index, slice_index_or, Option, Some, None, ⊤}
+use Rattle.lz_base.specs.Limits.{slot_limit}
 use Rattle.lz_base.specs.Words.{value_bound}
 use Rattle.lz_tree.specs.ScopedTrees.{ScopedProgram}
 use Rattle.lz_model.specs.declared.actions.Action.{Action}
@@ -41,9 +42,9 @@ taken_of state choice is_cut = None
 
 -- ---- what is taken
 
--- how many threads there may be
+-- how many threads there may be: the first, and those that a program may create
 abbrev pub room : ℕ
-room = 17
+room = suc slot_limit
 
 -- This is what a thread may do next by this choice, and so it goes on behind it.
 pub record Takes (p : ScopedProgram) (n : ℕ) (state : State) (choice : ℕ) (before : threads.Thread) (next : Act) (after : threads.Thread) : Type 0 where

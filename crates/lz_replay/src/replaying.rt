@@ -10,7 +10,7 @@ ghost use Rattle.lz_replay.specs.Replays.{Says};
 
 use crate::answer::Replayed;
 use crate::threads::{Held, Taken, make, start, take};
-use lz_base::{BreakKind, Memory};
+use lz_base::{BreakKind, Memory, SLOT_LIMIT};
 use lz_model::{Action, Schedule, Step};
 use lz_store::{Acted, Store};
 use lz_tree::Scoped;
@@ -28,7 +28,7 @@ pub enum Stepped {
 }
 
 /// The greatest number of a thread: no program has more slots.
-const LAST_THREAD: u32 = 16;
+const LAST_THREAD: u32 = SLOT_LIMIT as u32;
 
 /// Whether an action creates no thread past the last that there is room for.
 fn is_within(action: &Action) -> bool
@@ -53,7 +53,7 @@ fn broken(kind: BreakKind, line: u32, index: usize, len: usize) -> Replayed
     }
 }
 
-/// Does the action that a thread takes next, and makes the thread that it creates. A program of at most 16 slots
+/// Does the action that a thread takes next, and makes the thread that it creates. A program within `SLOT_LIMIT`
 /// creates no thread past the last that there is room for; another may come to want of memory.
 fn act(
     alloc: Global,

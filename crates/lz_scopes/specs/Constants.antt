@@ -6,6 +6,7 @@ use Rattle.lz_base.specs.declared.operator.Unary.{Unary}
 use Rattle.lz_base.specs.declared.operator.Unary.TheVariants.{Plus, Minus, Invert, Not}
 use Rattle.lz_base.specs.declared.operator.Binary.{Binary}
 use Rattle.lz_base.specs.declared.operator.Binary.TheVariants.{Mul, Div, Rem, Add, Sub, Shl, Shr, Lt, Gt, Le, Ge, Eq, Ne, BitAnd, BitXor, BitOr, Both, Either}
+use Rattle.lz_base.specs.Limits.{length_limit}
 use Rattle.lz_base.specs.Words.{unary_value, binary_value, converted, is_true, value_bound, sign_bound}
 use Rattle.lz_tree.specs.declared.token.Form.{Form}
 use Rattle.lz_tree.specs.declared.expression.TypeName.{TypeName}
@@ -155,10 +156,6 @@ is_constant_initializer mutex = true
 is_constant_initializer cond = true
 
 -- ---- lengths
-
--- the most elements that an array may have
-abbrev pub length_limit : ℕ
-length_limit = 4096
 
 -- the length that a constant gives to an array, where it is one
 abbrev pub length_in : Option Word → Option ℕ

@@ -8,12 +8,12 @@ ghost use Rattle.lz_store.specs.Answers.{answer_of, state_behind, IsWithin, last
 ghost use Rattle.lz_store.specs.Kept.{state_of, HasRoom};
 
 use crate::store::Acted;
-use lz_base::{BreakKind, Memory, Value};
+use lz_base::{BreakKind, Memory, SLOT_LIMIT, Value};
 use lz_model::{Action, ThreadState};
 use std::alloc::Global;
 
-/// How many threads there is room for.
-const ROOM: usize = 17;
+/// How many threads there is room for: the first, and those that a program may create.
+const ROOM: usize = SLOT_LIMIT as usize + 1;
 
 /// A thread that was just made.
 const FRESH: ThreadState = ThreadState {

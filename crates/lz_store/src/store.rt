@@ -41,7 +41,7 @@ impl Model for Store {
 }
 
 impl Store {
-    /// The state in which the program begins, with room for 17 threads.
+    /// The state in which the program begins, with room for `SLOT_LIMIT` threads beside the first.
     pub fn new(alloc: Global, scoped: &Scoped) -> Result<Store, Memory>
         ensures { IfOk result (λ store. let p = scoped_program scoped.now in store ≡ opening p.cells p.mutexes) }
     {
