@@ -1,1 +1,1 @@
-pub mod FittingLemmas
+pub mod FitsLemmas

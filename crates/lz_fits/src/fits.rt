@@ -3,7 +3,7 @@ ghost use Rattle.std.specs.List.{All};
 ghost use Rattle.lz_tree.specs.ScopedTrees.{scoped_expression, scoped_expressions_of, scoped_target, scoped_initializer, scoped_declarator, scoped_declaration, scoped_statement, scoped_statements_of, scoped_branch_of, scoped_definition, scoped_program};
 ghost use Rattle.lz_stations.specs.StatementFits.{IsFitStatement};
 ghost use Rattle.lz_model.specs.CodeTraces as model;
-ghost use Rattle.lz_fits.specs.Fitting as spec;
+ghost use Rattle.lz_fits.specs.Fits as spec;
 
 use lz_base::VALUE_BOUND;
 use lz_tree::{

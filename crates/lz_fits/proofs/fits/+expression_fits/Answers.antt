@@ -1,8 +1,8 @@
 use Rattle.std.proofs.Common.{◌∙◌, ap, sym, arith}
 use Rattle.lz_tree.specs.ScopedTrees.{scoped_expression}
 use Rattle.lz_tree.proofs.ScopedTreesLemmas.{is_scoped_call}
-use Rattle.lz_fits.specs.Fitting.{fits}
-use Rattle.lz_fits.proofs.FittingLemmas.{all_of, walk_end}
+use Rattle.lz_fits.specs.Fits.{fits}
+use Rattle.lz_fits.proofs.FitsLemmas.{all_of, walk_end}
 use Rattle.lz_fits.proofs.fits.+expression_fits.Goals as goal
 
 pub expression_fits-returns-in-Call : goal.expression_fits-returns-in-Call

@@ -1,6 +1,6 @@
 use Rattle.lz_tree.specs.ScopedTrees.{scoped_expression}
-use Rattle.lz_fits.specs.Fitting.{fits}
-use Rattle.lz_fits.proofs.FittingLemmas.{IsSoFar}
+use Rattle.lz_fits.specs.Fits.{fits}
+use Rattle.lz_fits.proofs.FitsLemmas.{IsSoFar}
 use Rattle.lz_fits.proofs.fits.+expression_fits.Given as goal
 
 -- the expressions so far

@@ -1,8 +1,8 @@
 use Rattle.std.proofs.Common.{◌∙◌, ap, sym, arith}
 use Rattle.lz_tree.specs.ScopedTrees.{scoped_statement}
 use Rattle.lz_tree.proofs.ScopedTreesLemmas.{is_scoped_block}
-use Rattle.lz_fits.specs.Fitting.{statement_fits}
-use Rattle.lz_fits.proofs.FittingLemmas.{parts_of, walk_end}
+use Rattle.lz_fits.specs.Fits.{statement_fits}
+use Rattle.lz_fits.proofs.FitsLemmas.{parts_of, walk_end}
 use Rattle.lz_fits.proofs.fits.+statement_fits.Goals as goal
 
 pub statement_fits-returns-in-Block : goal.statement_fits-returns-in-Block

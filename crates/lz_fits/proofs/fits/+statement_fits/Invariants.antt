@@ -1,6 +1,6 @@
 use Rattle.lz_tree.specs.ScopedTrees.{scoped_statement}
-use Rattle.lz_fits.specs.Fitting.{statement_fits}
-use Rattle.lz_fits.proofs.FittingLemmas.{IsSoFar}
+use Rattle.lz_fits.specs.Fits.{statement_fits}
+use Rattle.lz_fits.proofs.FitsLemmas.{IsSoFar}
 use Rattle.lz_fits.proofs.fits.+statement_fits.Given as goal
 
 -- the statements so far

@@ -1,6 +1,6 @@
 use Rattle.std.proofs.Common.{◌∙◌, sym, arith}
 use Rattle.lz_tree.specs.ScopedTrees.{scoped_definition}
-use Rattle.lz_fits.proofs.FittingLemmas.{bodies_of, walk_end}
+use Rattle.lz_fits.proofs.FitsLemmas.{bodies_of, walk_end}
 use Rattle.lz_fits.proofs.fits.bodies_fit.Goals as goal
 
 pub returns : goal.returns

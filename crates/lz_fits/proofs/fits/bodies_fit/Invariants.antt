@@ -1,6 +1,6 @@
 use Rattle.lz_tree.specs.ScopedTrees.{scoped_definition}
-use Rattle.lz_fits.specs.Fitting.{statement_fits}
-use Rattle.lz_fits.proofs.FittingLemmas.{IsSoFar}
+use Rattle.lz_fits.specs.Fits.{statement_fits}
+use Rattle.lz_fits.proofs.FitsLemmas.{IsSoFar}
 use Rattle.lz_fits.proofs.fits.bodies_fit.Given as goal
 
 -- the bodies so far

@@ -1,6 +1,6 @@
 use Rattle.std.proofs.Common.{◌∙◌, sym}
 use Rattle.lz_tree.specs.ScopedTrees.{scoped_statement}
-use Rattle.lz_fits.proofs.FittingLemmas.{statement_so, so_statement}
+use Rattle.lz_fits.proofs.FitsLemmas.{statement_so, so_statement}
 use Rattle.lz_fits.proofs.fits.body_fits.Goals as goal
 
 pub returns-clause-fits : goal.returns-clause-fits

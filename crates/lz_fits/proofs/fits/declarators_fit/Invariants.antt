@@ -1,6 +1,6 @@
 use Rattle.lz_tree.specs.ScopedTrees.{scoped_declarator}
-use Rattle.lz_fits.specs.Fitting.{declarator_fits}
-use Rattle.lz_fits.proofs.FittingLemmas.{IsSoFar}
+use Rattle.lz_fits.specs.Fits.{declarator_fits}
+use Rattle.lz_fits.proofs.FitsLemmas.{IsSoFar}
 use Rattle.lz_fits.proofs.fits.declarators_fit.Given as goal
 
 -- the declarators so far

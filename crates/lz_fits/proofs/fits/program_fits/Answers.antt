@@ -1,8 +1,8 @@
 use Rattle.std.proofs.Common.{◌∙◌, ap, sym, map, List}
 use Rattle.lz_tree.specs.declared.scoped.ScopedFunction.{ScopedFunction}
 use Rattle.lz_tree.specs.ScopedTrees.{scoped_definition}
-use Rattle.lz_fits.specs.Fitting.{bodies_fit}
-use Rattle.lz_fits.proofs.FittingLemmas.{bodies_so, so_bodies}
+use Rattle.lz_fits.specs.Fits.{bodies_fit}
+use Rattle.lz_fits.proofs.FitsLemmas.{bodies_so, so_bodies}
 use Rattle.lz_fits.proofs.fits.program_fits.Goals as goal
 
 pub returns-clause-fits : goal.returns-clause-fits

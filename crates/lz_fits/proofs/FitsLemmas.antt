@@ -10,7 +10,7 @@ use Rattle.lz_tree.specs.ScopedTrees.{ScopedExpression, constant, null, text, ob
 use Rattle.lz_model.specs.CodeTraces.{first_of, len_of}
 use Rattle.lz_turns.specs.Fits.{HasNumbers, IsFit, IsFitPlace, IsFitIndex, AreFit}
 use Rattle.lz_stations.specs.StatementFits.{MayFit, IsFitFirst, AreFitDeclared, IsFitStatement, IsFitBranch, AreFitStatements}
-use Rattle.lz_fits.specs.Fitting.{has_numbers, fits, place_fits, index_fits, all_fit, may_fit, first_fits, declarator_fits, declared_fit, statement_fits, branch_fits, parts_fit, bodies_fit}
+use Rattle.lz_fits.specs.Fits.{has_numbers, fits, place_fits, index_fits, all_fit, may_fit, first_fits, declarator_fits, declared_fit, statement_fits, branch_fits, parts_fit, bodies_fit}
 
 -- ---- lists
 
