@@ -1,6 +1,7 @@
 -- The test of a tree is whether a thread can run it.
 use Rattle.std.proofs.Common.{◌≡◌, ℕ, suc, ◌+◌, ◌<◌, ◌≤◌, Bool, true, false, not, ◌&&◌, nat_lt, List, [], ◌∷◌, length, drop, get_or, map, Option, Some, None, refl, sym, ap, ◌∙◌, subst, arith, add-one}
 use Rattle.std.proofs.Math.Seq.{drop-cons, drop-length}
+use Rattle.std.proofs.lemmas.Bool.{and_parts, and_from}
 use Rattle.std.proofs.lemmas.Bool.Decides.{nat_tests}
 use Rattle.std.specs.List.{All, list_all}
 use Rattle.std.proofs.lemmas.List.Elements.{All-head, All-tail, All-cons}
@@ -67,18 +68,6 @@ walk_end {A = A} p xs at fit end so_far =
 
 -- ---- both ways
 
-left : (a b : Bool) → (a && b) ≡ true → a ≡ true
-left true b h = refl
-left false b h = h
-
-right : (a b : Bool) → (a && b) ≡ true → b ≡ true
-right true b h = h
-right false b h = absurd cc
-
-pair : (a b : Bool) → a ≡ true → b ≡ true → (a && b) ≡ true
-pair true b e f = f
-pair false b e f = e
-
 numbers_so : (o : Object) → has_numbers o ≡ true → HasNumbers o
 numbers_so o h = grind (arith, nat_tests, h)
 
@@ -101,16 +90,16 @@ mutual
   fits_so (paren line inner kind) h = fits_so inner h
   fits_so (unary line op of kind) h = fits_so of h
   fits_so (cast line to of kind) h = fits_so of h
-  fits_so (binary line op l r kind) h = (fits_so l (left (fits l) (fits r) h), fits_so r (right (fits l) (fits r) h))
+  fits_so (binary line op l r kind) h = (fits_so l (and_parts (fits l) (fits r) h).0, fits_so r (and_parts (fits l) (fits r) h).1)
   fits_so (choose line test one two kind) h =
-      let rest = right (fits test) (fits one && fits two) h in
-      (fits_so test (left (fits test) (fits one && fits two) h), fits_so one (left (fits one) (fits two) rest), fits_so two (right (fits one) (fits two) rest))
-  fits_so (assign line op to value kind) h = (place_so to (left (place_fits to) (fits value) h), fits_so value (right (place_fits to) (fits value) h))
+      let rest = (and_parts (fits test) (fits one && fits two) h).1 in
+      (fits_so test (and_parts (fits test) (fits one && fits two) h).0, fits_so one (and_parts (fits one) (fits two) rest).0, fits_so two (and_parts (fits one) (fits two) rest).1)
+  fits_so (assign line op to value kind) h = (place_so to (and_parts (place_fits to) (fits value) h).0, fits_so value (and_parts (place_fits to) (fits value) h).1)
   fits_so (step line of up before kind) h = place_so of h
   fits_so (call line callee args kind) h = all_so args h
 
   place_so : (t : Lvalue) → place_fits t ≡ true → IsFitPlace t
-  place_so (lvalue line meant index checked) h = (numbers_so meant (left (has_numbers meant) (index_fits index) h), index_so index (right (has_numbers meant) (index_fits index) h))
+  place_so (lvalue line meant index checked) h = (numbers_so meant (and_parts (has_numbers meant) (index_fits index) h).0, index_so index (and_parts (has_numbers meant) (index_fits index) h).1)
 
   index_so : (i : ScopedIndex) → index_fits i ≡ true → IsFitIndex i
   index_so whole h = tt
@@ -118,7 +107,7 @@ mutual
 
   all_so : (es : ScopedExpressions) → all_fit es ≡ true → AreFit es
   all_so none h = tt
-  all_so (and e rest) h = (fits_so e (left (fits e) (all_fit rest) h), all_so rest (right (fits e) (all_fit rest) h))
+  all_so (and e rest) h = (fits_so e (and_parts (fits e) (all_fit rest) h).0, all_so rest (and_parts (fits e) (all_fit rest) h).1)
 
 mutual
   so_fits : (e : ScopedExpression) → IsFit e → fits e ≡ true
@@ -130,14 +119,14 @@ mutual
   so_fits (paren line inner kind) h = so_fits inner h
   so_fits (unary line op of kind) h = so_fits of h
   so_fits (cast line to of kind) h = so_fits of h
-  so_fits (binary line op l r kind) h = pair (fits l) (fits r) (so_fits l h.0) (so_fits r h.1)
-  so_fits (choose line test one two kind) h = pair (fits test) (fits one && fits two) (so_fits test h.0) (pair (fits one) (fits two) (so_fits one h.1) (so_fits two h.2))
-  so_fits (assign line op to value kind) h = pair (place_fits to) (fits value) (so_place to h.0) (so_fits value h.1)
+  so_fits (binary line op l r kind) h = and_from (fits l) (fits r) (so_fits l h.0) (so_fits r h.1)
+  so_fits (choose line test one two kind) h = and_from (fits test) (fits one && fits two) (so_fits test h.0) (and_from (fits one) (fits two) (so_fits one h.1) (so_fits two h.2))
+  so_fits (assign line op to value kind) h = and_from (place_fits to) (fits value) (so_place to h.0) (so_fits value h.1)
   so_fits (step line of up before kind) h = so_place of h
   so_fits (call line callee args kind) h = so_all args h
 
   so_place : (t : Lvalue) → IsFitPlace t → place_fits t ≡ true
-  so_place (lvalue line meant index checked) h = pair (has_numbers meant) (index_fits index) (so_numbers meant h.0) (so_index index h.1)
+  so_place (lvalue line meant index checked) h = and_from (has_numbers meant) (index_fits index) (so_numbers meant h.0) (so_index index h.1)
 
   so_index : (i : ScopedIndex) → IsFitIndex i → index_fits i ≡ true
   so_index whole h = refl
@@ -145,7 +134,7 @@ mutual
 
   so_all : (es : ScopedExpressions) → AreFit es → all_fit es ≡ true
   so_all none h = refl
-  so_all (and e rest) h = pair (fits e) (all_fit rest) (so_fits e h.0) (so_all rest h.1)
+  so_all (and e rest) h = and_from (fits e) (all_fit rest) (so_fits e h.0) (so_all rest h.1)
 
 may_so : (o : Option ScopedExpression) → may_fit o ≡ true → MayFit o
 may_so None h = tt
@@ -168,12 +157,12 @@ so_first (listed values) h = so_all values h
 declared_so : (ds : List ScopedInitDeclarator) → declared_fit ds ≡ true → AreFitDeclared ds
 declared_so [] h = tt
 declared_so (d ∷ rest) h =
-    let one = left (declarator_fits d) (declared_fit rest) h in
-    (numbers_so d.object (left (has_numbers d.object) (first_fits d.first) one), first_so d.first (right (has_numbers d.object) (first_fits d.first) one), declared_so rest (right (declarator_fits d) (declared_fit rest) h))
+    let one = (and_parts (declarator_fits d) (declared_fit rest) h).0 in
+    (numbers_so d.object (and_parts (has_numbers d.object) (first_fits d.first) one).0, first_so d.first (and_parts (has_numbers d.object) (first_fits d.first) one).1, declared_so rest (and_parts (declarator_fits d) (declared_fit rest) h).1)
 
 so_declared : (ds : List ScopedInitDeclarator) → AreFitDeclared ds → declared_fit ds ≡ true
 so_declared [] h = refl
-so_declared (d ∷ rest) h = pair (declarator_fits d) (declared_fit rest) (pair (has_numbers d.object) (first_fits d.first) (so_numbers d.object h.0) (so_first d.first h.1)) (so_declared rest h.2)
+so_declared (d ∷ rest) h = and_from (declarator_fits d) (declared_fit rest) (and_from (has_numbers d.object) (first_fits d.first) (so_numbers d.object h.0) (so_first d.first h.1)) (so_declared rest h.2)
 
 mutual
   pub statement_so : (s : ScopedStatement) → statement_fits s ≡ true → IsFitStatement s
@@ -182,17 +171,17 @@ mutual
   statement_so (block parts) h = parts_so parts h
   statement_so (declare of) h = declared_so of.declarators h
   statement_so (when line test one two) h =
-      let rest = right (fits test) (statement_fits one && branch_fits two) h in
-      (fits_so test (left (fits test) (statement_fits one && branch_fits two) h), statement_so one (left (statement_fits one) (branch_fits two) rest), branch_so two (right (statement_fits one) (branch_fits two) rest))
-  statement_so (while line test body) h = (fits_so test (left (fits test) (statement_fits body) h), statement_so body (right (fits test) (statement_fits body) h))
-  statement_so (do_while line body test) h = (statement_so body (left (statement_fits body) (fits test) h), fits_so test (right (statement_fits body) (fits test) h))
+      let rest = (and_parts (fits test) (statement_fits one && branch_fits two) h).1 in
+      (fits_so test (and_parts (fits test) (statement_fits one && branch_fits two) h).0, statement_so one (and_parts (statement_fits one) (branch_fits two) rest).0, branch_so two (and_parts (statement_fits one) (branch_fits two) rest).1)
+  statement_so (while line test body) h = (fits_so test (and_parts (fits test) (statement_fits body) h).0, statement_so body (and_parts (fits test) (statement_fits body) h).1)
+  statement_so (do_while line body test) h = (statement_so body (and_parts (statement_fits body) (fits test) h).0, fits_so test (and_parts (statement_fits body) (fits test) h).1)
   statement_so (for line opens test change body) h =
-      let rest = right (statement_fits opens) (may_fit test && (may_fit change && statement_fits body)) h in
-      let more = right (may_fit test) (may_fit change && statement_fits body) rest in (
-        statement_so opens (left (statement_fits opens) (may_fit test && (may_fit change && statement_fits body)) h),
-        may_so test (left (may_fit test) (may_fit change && statement_fits body) rest),
-        may_so change (left (may_fit change) (statement_fits body) more),
-        statement_so body (right (may_fit change) (statement_fits body) more),
+      let rest = (and_parts (statement_fits opens) (may_fit test && (may_fit change && statement_fits body)) h).1 in
+      let more = (and_parts (may_fit test) (may_fit change && statement_fits body) rest).1 in (
+        statement_so opens (and_parts (statement_fits opens) (may_fit test && (may_fit change && statement_fits body)) h).0,
+        may_so test (and_parts (may_fit test) (may_fit change && statement_fits body) rest).0,
+        may_so change (and_parts (may_fit change) (statement_fits body) more).0,
+        statement_so body (and_parts (may_fit change) (statement_fits body) more).1,
       )
   statement_so (break line) h = tt
   statement_so (continue line) h = tt
@@ -205,7 +194,7 @@ mutual
 
   parts_so : (ps : ScopedStatements) → parts_fit ps ≡ true → AreFitStatements ps
   parts_so nil h = tt
-  parts_so (cons s rest) h = (statement_so s (left (statement_fits s) (parts_fit rest) h), parts_so rest (right (statement_fits s) (parts_fit rest) h))
+  parts_so (cons s rest) h = (statement_so s (and_parts (statement_fits s) (parts_fit rest) h).0, parts_so rest (and_parts (statement_fits s) (parts_fit rest) h).1)
 
 mutual
   pub so_statement : (s : ScopedStatement) → IsFitStatement s → statement_fits s ≡ true
@@ -213,12 +202,12 @@ mutual
   so_statement (eval value) h = so_fits value h
   so_statement (block parts) h = so_parts parts h
   so_statement (declare of) h = so_declared of.declarators h
-  so_statement (when line test one two) h = pair (fits test) (statement_fits one && branch_fits two) (so_fits test h.0) (pair (statement_fits one) (branch_fits two) (so_statement one h.1) (so_branch two h.2))
-  so_statement (while line test body) h = pair (fits test) (statement_fits body) (so_fits test h.0) (so_statement body h.1)
-  so_statement (do_while line body test) h = pair (statement_fits body) (fits test) (so_statement body h.0) (so_fits test h.1)
+  so_statement (when line test one two) h = and_from (fits test) (statement_fits one && branch_fits two) (so_fits test h.0) (and_from (statement_fits one) (branch_fits two) (so_statement one h.1) (so_branch two h.2))
+  so_statement (while line test body) h = and_from (fits test) (statement_fits body) (so_fits test h.0) (so_statement body h.1)
+  so_statement (do_while line body test) h = and_from (statement_fits body) (fits test) (so_statement body h.0) (so_fits test h.1)
   so_statement (for line opens test change body) h =
-      pair (statement_fits opens) (may_fit test && (may_fit change && statement_fits body)) (so_statement opens h.0)
-      (pair (may_fit test) (may_fit change && statement_fits body) (so_may test h.1) (pair (may_fit change) (statement_fits body) (so_may change h.2) (so_statement body h.3)))
+      and_from (statement_fits opens) (may_fit test && (may_fit change && statement_fits body)) (so_statement opens h.0)
+      (and_from (may_fit test) (may_fit change && statement_fits body) (so_may test h.1) (and_from (may_fit change) (statement_fits body) (so_may change h.2) (so_statement body h.3)))
   so_statement (break line) h = refl
   so_statement (continue line) h = refl
   so_statement (return line value) h = so_may value h
@@ -230,15 +219,15 @@ mutual
 
   so_parts : (ps : ScopedStatements) → AreFitStatements ps → parts_fit ps ≡ true
   so_parts nil h = refl
-  so_parts (cons s rest) h = pair (statement_fits s) (parts_fit rest) (so_statement s h.0) (so_parts rest h.1)
+  so_parts (cons s rest) h = and_from (statement_fits s) (parts_fit rest) (so_statement s h.0) (so_parts rest h.1)
 
 abbrev IsFitBody : ScopedDefinition → Type 0
 IsFitBody d = IsFitStatement d.body
 
 pub bodies_so : (ds : List ScopedDefinition) → bodies_fit ds ≡ true → All (λ d. IsFitStatement d.body) ds
 bodies_so [] h = λ k d low. absurd (omega (arith, low))
-bodies_so (d ∷ rest) h = All-cons IsFitBody d rest (statement_so d.body (left (statement_fits d.body) (bodies_fit rest) h)) (bodies_so rest (right (statement_fits d.body) (bodies_fit rest) h))
+bodies_so (d ∷ rest) h = All-cons IsFitBody d rest (statement_so d.body (and_parts (statement_fits d.body) (bodies_fit rest) h).0) (bodies_so rest (and_parts (statement_fits d.body) (bodies_fit rest) h).1)
 
 pub so_bodies : (ds : List ScopedDefinition) → All (λ d. IsFitStatement d.body) ds → bodies_fit ds ≡ true
 so_bodies [] h = refl
-so_bodies (d ∷ rest) h = pair (statement_fits d.body) (bodies_fit rest) (so_statement d.body (All-head IsFitBody d rest h)) (so_bodies rest (All-tail IsFitBody d rest h))
+so_bodies (d ∷ rest) h = and_from (statement_fits d.body) (bodies_fit rest) (so_statement d.body (All-head IsFitBody d rest h)) (so_bodies rest (All-tail IsFitBody d rest h))
