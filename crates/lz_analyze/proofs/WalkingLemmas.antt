@@ -5,6 +5,7 @@ use Rattle.std.proofs.lemmas.Bool.{cases_lt, cases_eq, eqb-true, eq-eqb, ne_eqb,
 use Rattle.std.proofs.lemmas.List.{get_or-take, get_or-map, length-take-le, length-map, length-reverse, reverse-append, take_all, get_or_default}
 use Rattle.std.proofs.lemmas.List.Sums.{count_by-le-length, count_by_more_no, count_by_more_yes}
 use Rattle.std.proofs.lemmas.List.Elements.{All-contains, Contains-get_or}
+use Rattle.lz_base.proofs.ListLemmas.{contained_cases}
 use Rattle.lz_cnf.specs.declared.clause.Lit.{Lit}
 use Rattle.lz_cnf.specs.Models.{variable_of, negated}
 use Rattle.lz_cnf.specs.Partial.{IsFalseLit, IsNamed}
@@ -72,10 +73,6 @@ met_left s todo marked low i pending hints lit walk is any =
           }))
     ]
 
-first_or_rest : (first lit : Lit) (rest : List Lit) → Contains (first ∷ rest) lit → (first ≡ lit) ⊎ Contains rest lit
-first_or_rest first lit rest (zero, lt, at) = inl at
-first_or_rest first lit rest (suc k, lt, at) = inr (k, omega (arith, lt), at)
-
 -- the first literal of what is left was met
 pub met_first : (s : TrailState) (rest : List Lit) (marked : List ℕ) (low : List Lit) (i pending : ℕ) (hints : List ℕ) (lit : Lit) → IsTrail s → IsWalk s (IsTodo s i (lit ∷ rest)) marked low i pending hints
     → list_any (eqb (variable_of lit)) marked ≡ true → IsWalk s (IsTodo s i rest) marked low i pending hints
@@ -83,9 +80,9 @@ met_first s rest marked low i pending hints lit trail walk any =
     todo_less s (IsTodo s i (lit ∷ rest)) (IsTodo s i rest) marked low i pending hints walk
     (λ l h. ⊎_elim
     (λ same. inl (met_left s (IsTodo s i (lit ∷ rest)) marked low i pending hints l walk (false_before s i l trail walk.within h.1)
-    (ap (λ (x : Lit). list_any (eqb (variable_of x)) marked) (sym same) ∙ any)))
+    (ap (λ (x : Lit). list_any (eqb (variable_of x)) marked) same ∙ any)))
     (λ later. inr (later, h.1))
-    (first_or_rest lit l rest h.0))
+    (contained_cases lit l rest h.0))
 
 -- what is known of a literal that is met
 abbrev IsKnown : TrailState → ℕ → List ℕ → Lit → Type 0

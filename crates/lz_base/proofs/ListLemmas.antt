@@ -1,8 +1,26 @@
--- Facts on lists that the library lacks: searches for an item that meets a fact, and for one that does not.
-use Rattle.std.proofs.Common.{◌≡◌, ℕ, ◌+◌, ◌<◌, ◌≤◌, List, [], ◌∷◌, ◌++◌, length, get_or, subst, sym, refl, ◌∙◌, arith, below_more}
+-- Facts on lists that the library lacks: their first items and parts, searches for an item that meets a fact, and for one that does not.
+use Rattle.std.proofs.Common.{◌≡◌, ℕ, zero, suc, ◌+◌, ◌<◌, ◌≤◌, ◌⊎◌, inl, inr, List, [], ◌∷◌, ◌++◌, length, get_or, drop, subst, sym, refl, ap, ◌∙◌, arith, below_more}
 use Rattle.std.specs.List.{All, Any, Contains}
-use Rattle.std.proofs.lemmas.List.{get_or_default}
+use Rattle.std.proofs.lemmas.List.{get_or_default, drop_more}
 use Rattle.std.proofs.lemmas.List.Elements.{Contains-append_left, Contains-append_right}
+
+-- equal lists have one first item and one rest
+pub cons_parts : {A : Type 0} {x y : A} {xs ys : List A} → x ∷ xs ≡ y ∷ ys → (x ≡ y) × (xs ≡ ys)
+cons_parts {A} {x} e = (ap (λ (l : List A). get_or l 0 x) e, ap (λ (l : List A). drop 1 l) e)
+
+-- two lists that are empty together: the first is
+pub nil_front : {A : Type 0} (xs ys : List A) → xs ++ ys ≡ [] → xs ≡ []
+nil_front [] ys e = refl
+nil_front (x ∷ xs) ys e = absurd cc
+
+-- and so is the second
+pub nil_back : {A : Type 0} (xs ys : List A) → xs ++ ys ≡ [] → ys ≡ []
+nil_back [] ys e = e
+nil_back (x ∷ xs) ys e = absurd cc
+
+-- the item at a place, and what is behind it
+pub drop_item : {A : Type 0} (xs : List A) (i : ℕ) (x : A) → i < length xs → x ≡ get_or xs i x → drop i xs ≡ x ∷ drop (i + 1) xs
+drop_item {A} xs i x below is = drop_more xs i x below ∙ ap (λ (y : A). y ∷ drop (i + 1) xs) (sym is)
 
 -- no item before this place meets the fact
 pub record NoneBefore {A : Type 0} (P : A → Type 0) (xs : List A) (i : ℕ) : Type 0 where
@@ -43,6 +61,15 @@ all_all P xs i before le k x lt = before.all k (omega arith) x
 -- the first item is contained
 pub head_contained : {A : Type 0} (x : A) (rest : List A) → Contains (x ∷ rest) x
 head_contained x rest = (0, omega arith, refl)
+
+-- and so is each item of the rest
+pub rest_contained : {A : Type 0} (x y : A) (rest : List A) → Contains rest y → Contains (x ∷ rest) y
+rest_contained x y rest h = (suc h.0, (let lt = h.1 in omega arith), h.2)
+
+-- an item is the first, or the rest contains it
+pub contained_cases : {A : Type 0} (x y : A) (rest : List A) → Contains (x ∷ rest) y → (y ≡ x) ⊎ Contains rest y
+contained_cases x y rest (zero, lt, at) = inl (sym at)
+contained_cases x y rest (suc k, lt, at) = inr (k, omega (arith, lt), at)
 
 -- an empty list contains nothing
 pub none_contained : {A : Type 0} (x : A) → Contains [] x → ⊥

@@ -4,6 +4,7 @@ use Rattle.std.specs.List.{All, Any, Contains}
 use Rattle.std.proofs.lemmas.List.{append-nil, append_assoc, take_all, take_more, drop_more, drop_all, take-append-drop, get_or_default}
 use Rattle.std.proofs.lemmas.List.Elements.{All-push, All-contains, Contains-get_or, Contains-push, Contains-push_cases, Contains-append_left}
 use Rattle.std.proofs.lemmas.Option.{slice_get-get_or, slice_get_past}
+use Rattle.lz_base.proofs.ListLemmas.{rest_contained, contained_cases}
 use Rattle.lz_cnf.specs.declared.clause.Lit.{Lit}
 use Rattle.lz_cnf.specs.declared.clause.Cnf.{Cnf}
 use Rattle.lz_cnf.specs.Models.{variable_of, negated}
@@ -16,7 +17,7 @@ use Rattle.lz_log.specs.declared.marks.Standing.TheVariants.{AllFalse, OneLeft, 
 use Rattle.lz_log.specs.Marks.{Mark, Stands}
 use Rattle.lz_log.specs.Checking.{IsFirstBad, IsProper, AreBelow, GoesOn, Stops, Leads}
 use Rattle.lz_log.specs.Refutation.{LeadsToFalse, AreByHints, IsByHints, Refutes, known_clauses}
-use Rattle.lz_log.proofs.MarksLemmas.{in_front, here_in_front, behind_front}
+use Rattle.lz_log.proofs.MarksLemmas.{here_in_front}
 use Rattle.lz_log.proofs.RefutationLemmas.{same_named, unit_hint, two_open, false_hint, by_hints_push, known_push}
 
 -- a literal of a variable below the bound has a number below twice the bound, in both signs
@@ -146,8 +147,8 @@ proper_push variables clause lit proper below apart = record {
 pub mark_end : (marks : Marks) (clause : List Lit) (lit : Lit) → Mark marks (lit ∷ clause) → Mark marks (clause ++ lit ∷ [])
 mark_end marks clause lit mark = record {
   told = λ other lt. (
-    λ stamped. ⊎_elim (λ (same : other ≡ lit). subst (Contains (clause ++ lit ∷ [])) (sym same) (Contains-push clause lit)) (λ (old : Contains clause other). Contains-append_left clause (lit ∷ []) other old) (in_front clause lit other ((mark.told other lt).0 stamped)),
-    λ within. (mark.told other lt).1 (⊎_elim (λ (old : Contains clause other). behind_front clause lit other old) (λ (same : lit ≡ other). here_in_front clause lit other (sym same)) (Contains-push_cases clause lit other within)),
+    λ stamped. ⊎_elim (λ (same : other ≡ lit). subst (Contains (clause ++ lit ∷ [])) (sym same) (Contains-push clause lit)) (λ (old : Contains clause other). Contains-append_left clause (lit ∷ []) other old) (contained_cases lit other clause ((mark.told other lt).0 stamped)),
+    λ within. (mark.told other lt).1 (⊎_elim (λ (old : Contains clause other). rest_contained lit other clause old) (λ (same : lit ≡ other). here_in_front clause lit other (sym same)) (Contains-push_cases clause lit other within)),
   );
 }
 

@@ -1,8 +1,9 @@
 -- Stamps and the literals that they mark.
-use Rattle.std.proofs.Common.{◌≡◌, ◌↔◌, ℕ, zero, suc, ◌+◌, ◌<◌, ◌≤◌, ◌⊎◌, inl, inr, ⊎_elim, List, [], ◌∷◌, length, get_or, set, sym, ◌∙◌, ap, subst, arith, length-set}
+use Rattle.std.proofs.Common.{◌≡◌, ◌↔◌, ℕ, zero, ◌+◌, ◌<◌, ◌≤◌, ◌⊎◌, inl, inr, ⊎_elim, List, [], ◌∷◌, length, get_or, set, sym, ◌∙◌, ap, subst, arith, length-set}
 use Rattle.std.proofs.lemmas.List.{get_or-set_same, get_or-set_other}
 use Rattle.std.specs.List.{All, Contains}
 use Rattle.std.proofs.lemmas.Bool.{cases_order}
+use Rattle.lz_base.proofs.ListLemmas.{rest_contained, contained_cases}
 use Rattle.lz_cnf.specs.declared.clause.Lit.{Lit}
 use Rattle.lz_cnf.proofs.LitLemmas.{same_lit}
 
@@ -16,15 +17,8 @@ pub past_next : (stamps : List ℕ) (round : ℕ) → All (λ stamp. stamp ≤ r
 past_next stamps round past k d lt = let bound = past k d lt in omega arith
 
 -- what is in a list with one more in front
-pub in_front : (false_ : List Lit) (lit other : Lit) → Contains (lit ∷ false_) other → (other ≡ lit) ⊎ Contains false_ other
-in_front false_ lit other (zero, lt, e) = inl (sym e)
-in_front false_ lit other (suc k, lt, e) = inr (k, omega (arith, lt), e)
-
 pub here_in_front : (false_ : List Lit) (lit other : Lit) → other ≡ lit → Contains (lit ∷ false_) other
 here_in_front false_ lit other e = (zero, omega arith, sym e)
-
-pub behind_front : (false_ : List Lit) (lit other : Lit) → Contains false_ other → Contains (lit ∷ false_) other
-behind_front false_ lit other (k, lt, e) = (suc k, omega (arith, lt), e)
 
 -- the stamp of a literal set to the round marks it beside those that were marked
 pub marked_more : (stamps : List ℕ) (round : ℕ) (false_ : List Lit) (lit : Lit) → lit.0 < length stamps
@@ -46,6 +40,6 @@ marked_more stamps round false_ lit within told other lt =
         → (get_or (set stamps lit.0 round) other.0 0 ≡ round) ↔ Contains (lit ∷ false_) other
     apart stamps round false_ lit other told before differ =
         let kept = get_or-set_other stamps lit.0 other.0 round 0 differ in (
-          λ h. behind_front false_ lit other ((told other before).0 (sym kept ∙ h)),
-          λ h. kept ∙ (told other before).1 (⊎_elim (λ (e : other ≡ lit). absurd (differ (ap (λ (l : Lit). l.0) e))) (λ (w : Contains false_ other). w) (in_front false_ lit other h)),
+          λ h. rest_contained lit other false_ ((told other before).0 (sym kept ∙ h)),
+          λ h. kept ∙ (told other before).1 (⊎_elim (λ (e : other ≡ lit). absurd (differ (ap (λ (l : Lit). l.0) e))) (λ (w : Contains false_ other). w) (contained_cases lit other false_ h)),
         )

@@ -3,6 +3,7 @@ use Rattle.std.proofs.Common.{◌≡◌, ℕ, suc, ◌+◌, ◌-◌, ◌/◌, �
 use Rattle.std.specs.List.{Contains}
 use Rattle.std.specs.Vec.{vec_capacity}
 use Rattle.std.proofs.lemmas.List.{get_or-map, get_or_default, length-set}
+use Rattle.lz_base.proofs.ListLemmas.{contained_cases}
 use Rattle.lz_cnf.specs.declared.clause.Lit.{Lit}
 use Rattle.lz_cnf.specs.Models.{variable_of, negated}
 use Rattle.lz_cnf.specs.Partial.{IsFalseLit}
@@ -20,7 +21,7 @@ use Rattle.lz_prop.specs.Stored.{clauses_of}
 use Rattle.lz_prop.specs.Kept.{IsKept}
 use Rattle.lz_prop.specs.Further.{IsFurther, IsHandled, IsPropagated}
 use Rattle.lz_prop.specs.Walk.{IsWalk, IsTurn, IsWalking}
-use Rattle.lz_prop.proofs.WatchLemmas.{last_within, firsts_long, in_list, chain_unique, chain_some, chain_none, chain_short, list_fits, along_begins, along_stays, along_shifted, IsLeftAlong}
+use Rattle.lz_prop.proofs.WatchLemmas.{last_within, firsts_long, chain_unique, chain_some, chain_none, chain_short, list_fits, along_begins, along_stays, along_shifted, IsLeftAlong}
 use Rattle.lz_prop.proofs.WatchersLemmas.{guards_count, guard_read}
 use Rattle.lz_prop.proofs.GuardLemmas.{twin_within, twin_half, guards_moved, guards_satisfied, are_next, are_moved, guarded_quiet}
 use Rattle.lz_prop.proofs.KeptLemmas.{set_long, numbered, in_variables, kept_consistent, further_same, further_join}
@@ -166,7 +167,7 @@ turn_stays t u lit before at kept walk some further watch head guard =
     ⊎_elim
     (λ same. subst (λ (n : ℕ). Guards u.table.order.items (take (suc t.head) u.table.order.items) (get_or (clauses_of t.store) (n / 2) c) lit) (sym same) (guard c))
     (λ past. further.guards (suc t.head) (get_or (clauses_of t.store) (v / 2) c) lit (omega arith) (here.done v c past))
-    (in_list w v here.past has) in
+    (contained_cases w v here.past has) in
     record {
       walk = record {
         waiting = omega arith;

@@ -5,19 +5,10 @@ use Rattle.std.proofs.lemmas.Bool.{cases_eq, cases_lt, ne_eqb, eqb-true, or_case
 use Rattle.std.proofs.lemmas.List.{length-append, length-set, get_or_append_left, get_or_push, get_or-set_same, get_or-set_other, get_or_default}
 use Rattle.std.proofs.lemmas.List.Elements.{recursion_from_All}
 use Rattle.std.proofs.lemmas.Map.Steps.{length-le_from_distinct_below}
-use Rattle.lz_base.proofs.ListLemmas.{head_contained, none_contained}
+use Rattle.lz_base.proofs.ListLemmas.{head_contained, rest_contained, contained_cases, none_contained}
 use Rattle.lz_cnf.specs.declared.clause.Lit.{Lit}
 use Rattle.lz_cnf.proofs.LitLemmas.{same_lit}
 use Rattle.lz_prop.specs.Watch.{IsChain, IsListed, AreListed, IsRun, last_of, AreApart, IsAlong, next_without, firsts_without, IsShifted}
-
--- ---- members
-
-rest_in : (w v : ℕ) (ws : List ℕ) → Contains ws v → Contains (w ∷ ws) v
-rest_in w v ws h = (suc h.0, (let lt = h.1 in omega arith), h.2)
-
-pub in_list : (w v : ℕ) (ws : List ℕ) → Contains (w ∷ ws) v → (v ≡ w) ⊎ Contains ws v
-in_list w v ws (zero, lt, at) = inl (sym at)
-in_list w v ws (suc k, lt, at) = inr (k, omega (arith, lt), at)
 
 -- ---- chains
 
@@ -26,13 +17,13 @@ chain_same next next2 start [] le same h = h
 chain_same next next2 start (w ∷ ws) le same h = (
   h.0,
   (let lt = h.1 in omega arith),
-  subst (λ (n : ℕ). IsChain next2 n ws) (sym (same w (head_contained w ws))) (chain_same next next2 (get_or next w 0) ws le (λ v has. same v (rest_in w v ws has)) h.2),
+  subst (λ (n : ℕ). IsChain next2 n ws) (sym (same w (head_contained w ws))) (chain_same next next2 (get_or next w 0) ws le (λ v has. same v (rest_contained w v ws has)) h.2),
 )
 
 run_same : (next next2 : List ℕ) (start : ℕ) (ps : List ℕ) (end : ℕ) → length next ≤ length next2 → ((v : ℕ) → Contains ps v → get_or next2 v 0 ≡ get_or next v 0) → IsRun next start ps end → IsRun next2 start ps end
 run_same next next2 start [] end le same h = h
 run_same next next2 start (p ∷ ps) end le same h =
-    (same p (head_contained p ps) ∙ h.0, (let lt = h.1 in omega arith), run_same next next2 start ps (suc p) le (λ v has. same v (rest_in p v ps has)) h.2)
+    (same p (head_contained p ps) ∙ h.0, (let lt = h.1 in omega arith), run_same next next2 start ps (suc p) le (λ v has. same v (rest_contained p v ps has)) h.2)
 
 -- a list is determined by its start
 pub chain_unique : (next : List ℕ) (start : ℕ) (a b : List ℕ) → IsChain next start a → IsChain next start b → a ≡ b
@@ -46,7 +37,7 @@ chain_unique next start (w ∷ ws) (v ∷ vs) p q =
 
 chain_from : (next : List ℕ) (start v : ℕ) (ws : List ℕ) → IsChain next start ws → Contains ws v → (vs : List ℕ) × IsChain next (suc v) (v ∷ vs) × (length vs < length ws)
 chain_from next start v [] h has = absurd (none_contained v has)
-chain_from next start v (w ∷ ws) h has = elim (in_list w v ws has) [
+chain_from next start v (w ∷ ws) h has = elim (contained_cases w v ws has) [
   | inl same ↦ (ws, subst (λ (n : ℕ). IsChain next (suc n) (n ∷ ws)) (sym same) (refl, h.1, h.2), omega arith)
   | inr rest ↦ (let r = chain_from next (get_or next w 0) v ws h.2 rest in (r.0, r.1, (let lt = r.2 in omega arith)))
 ]
@@ -90,7 +81,7 @@ any_in [] n q below h = absurd cc
 any_in (w ∷ ws) n q below h =
     ⊎_elim
     (λ here. let same = eqb-true q w here in let lt = below w (head_contained w ws) in omega arith)
-    (λ rest. any_in ws n q (λ v has. below v (rest_in w v ws has)) rest)
+    (λ rest. any_in ws n q (λ v has. below v (rest_contained w v ws has)) rest)
     (or_cases (eqb q w) (list_any (eqb q) ws) h)
 
 pub list_fits : (ws : List ℕ) (n : ℕ) → AreApart ws → ((v : ℕ) → Contains ws v → v < n) → length ws ≤ n
@@ -111,8 +102,8 @@ in_onto : (ps ws : List ℕ) (v : ℕ) → Contains (onto ps ws) v → Contains 
 unfolding onto
 in_onto [] ws v h = inr h
 in_onto (p ∷ ps) ws v h = elim (in_onto ps (p ∷ ws) v h) [
-  | inl past ↦ inl (rest_in p v ps past)
-  | inr more ↦ elim (in_list p v ws more) [
+  | inl past ↦ inl (rest_contained p v ps past)
+  | inr more ↦ elim (contained_cases p v ws more) [
     | inl same ↦ inl (subst (Contains (p ∷ ps)) (sym same) (head_contained p ps))
     | inr rest ↦ inr rest
   ]
@@ -121,12 +112,12 @@ in_onto (p ∷ ps) ws v h = elim (in_onto ps (p ∷ ws) v h) [
 onto_rest : (ps ws : List ℕ) (v : ℕ) → Contains ws v → Contains (onto ps ws) v
 unfolding onto
 onto_rest [] ws v h = h
-onto_rest (p ∷ ps) ws v h = onto_rest ps (p ∷ ws) v (rest_in p v ws h)
+onto_rest (p ∷ ps) ws v h = onto_rest ps (p ∷ ws) v (rest_contained p v ws h)
 
 onto_past : (ps ws : List ℕ) (v : ℕ) → Contains ps v → Contains (onto ps ws) v
 unfolding onto
 onto_past [] ws v h = absurd (none_contained v h)
-onto_past (p ∷ ps) ws v h = elim (in_list p v ps h) [
+onto_past (p ∷ ps) ws v h = elim (contained_cases p v ps h) [
   | inl same ↦ onto_rest ps (p ∷ ws) v (subst (Contains (p ∷ ws)) (sym same) (head_contained p ws))
   | inr past ↦ onto_past ps (p ∷ ws) v past
 ]
@@ -161,23 +152,23 @@ along_stays guards next start lit before at past w ws is = record {
   run = (refl, is.chain.1, subst (IsRun next start past) is.chain.0 is.run);
   chain = is.chain.2;
   before_is = is.chain.0;
-  past_members = λ v has. elim (in_list w v past has) [
+  past_members = λ v has. elim (contained_cases w v past has) [
     | inl same ↦ is.rest_members v (subst (Contains (w ∷ ws)) (sym same) (head_contained w ws))
     | inr p ↦ is.past_members v p
   ];
-  rest_members = λ v has. is.rest_members v (rest_in w v ws has);
+  rest_members = λ v has. is.rest_members v (rest_contained w v ws has);
   whole = λ v lt e. elim (is.whole v lt e) [
-    | inl p ↦ inl (rest_in w v past p)
-    | inr r ↦ elim (in_list w v ws r) [
+    | inl p ↦ inl (rest_contained w v past p)
+    | inr r ↦ elim (contained_cases w v ws r) [
       | inl same ↦ inl (subst (Contains (w ∷ past)) (sym same) (head_contained w past))
       | inr later ↦ inr later
     ]
   ];
   past_apart = (λ has. is.apart w has (head_contained w ws), is.past_apart);
   rest_apart = is.rest_apart.1;
-  apart = λ v has rest. elim (in_list w v past has) [
+  apart = λ v has rest. elim (contained_cases w v past has) [
     | inl same ↦ is.rest_apart.0 (subst (Contains ws) same rest)
-    | inr p ↦ is.apart v p (rest_in w v ws rest)
+    | inr p ↦ is.apart v p (rest_contained w v ws rest)
   ];
 }
 
@@ -205,13 +196,13 @@ listed_first : (guards guards2 : List Lit) (next next2 : List ℕ) (start : ℕ)
 listed_first guards guards2 next next2 start lit w le within link in_guards own links there back is = record {
   list = w ∷ is.list;
   chain = (refl, within, subst (λ (n : ℕ). IsChain next2 n is.list) (sym link) (chain_same next next2 start is.list le (λ v has. let m = is.members v has in links v m.0 m.1) is.chain));
-  members = λ v has. elim (in_list w v is.list has) [
+  members = λ v has. elim (contained_cases w v is.list has) [
     | inl same ↦ subst (λ (n : ℕ). (n < length guards2) × (get_or guards2 n lit ≡ lit)) (sym same) (in_guards, own)
     | inr rest ↦ (let m = is.members v rest in there v m.0 m.1)
   ];
   whole = λ v lt e. elim (back v lt e) [
     | inl same ↦ subst (Contains (w ∷ is.list)) (sym same) (head_contained w is.list)
-    | inr b ↦ rest_in w v is.list (is.whole v b.0 b.1)
+    | inr b ↦ rest_contained w v is.list (is.whole v b.0 b.1)
   ];
 }
 
@@ -332,24 +323,24 @@ shifted_at guards next firsts lit at past w ws to are is number number_to ne fir
     run_same next1 next2 (get_or firsts1 lit.0 0) past behind (omega arith) (λ v has. differ v (λ e. off_past (subst (Contains past) e has))) run1 in
     let chain2 : IsChain next2 behind ws =
     chain_same next next2 behind ws (omega arith)
-    (λ v has. differ v (λ e. is.rest_apart.0 (subst (Contains ws) e has)) ∙ link1 v (λ p. is.apart v p (rest_in w v ws has)))
+    (λ v has. differ v (λ e. is.rest_apart.0 (subst (Contains ws) e has)) ∙ link1 v (λ p. is.apart v p (rest_contained w v ws has)))
     is.chain.2 in
     let along : IsAlong guards2 next2 (get_or firsts2 lit.0 0) lit (last_of past) behind past ws = record {
       run = subst (λ (n : ℕ). IsRun next2 n past behind) (sym (first_old lit.0 (λ e. ne (sym e)))) run2;
       chain = chain2;
       before_is = refl;
       past_members = λ v has. let m = is.past_members v has in let lt = m.0 in (omega arith, guard_old v lit (λ e. off_past (subst (Contains past) e has)) ∙ m.1);
-      rest_members = λ v has. let m = is.rest_members v (rest_in w v ws has) in let lt = m.0 in (omega arith, guard_old v lit (λ e. is.rest_apart.0 (subst (Contains ws) e has)) ∙ m.1);
+      rest_members = λ v has. let m = is.rest_members v (rest_contained w v ws has) in let lt = m.0 in (omega arith, guard_old v lit (λ e. is.rest_apart.0 (subst (Contains ws) e has)) ∙ m.1);
       whole = λ v lt e. elim (cases_eq v w) [
         | inl same ↦ absurd (ne (ap (λ (x : Lit). x.0) (sym (guard_own lit) ∙ ap (λ (n : ℕ). get_or guards2 n lit) (sym same) ∙ e)))
         | inr off ↦ elim (is.whole v (omega arith) (sym (guard_old v lit off) ∙ e)) [
           | inl p ↦ inl p
-          | inr r ↦ elim (in_list w v ws r) [ inl same ↦ absurd (off same) | inr later ↦ inr later ]
+          | inr r ↦ elim (contained_cases w v ws r) [ inl same ↦ absurd (off same) | inr later ↦ inr later ]
         ]
       ];
       past_apart = is.past_apart;
       rest_apart = is.rest_apart.1;
-      apart = λ v p r. is.apart v p (rest_in w v ws r);
+      apart = λ v p r. is.apart v p (rest_contained w v ws r);
     } in
     -- a watcher of another literal stands elsewhere
     let elsewhere : (l : Lit) → (l.0 ≡ lit.0 → ⊥) → (v : ℕ) → v < length guards → get_or guards v l ≡ l → (v ≡ w → ⊥) × (Contains past v → ⊥) = λ l other v lt e. (
