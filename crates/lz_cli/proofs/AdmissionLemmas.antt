@@ -1,6 +1,7 @@
 -- What is said of a program's rules, slots, cost and first choice excludes every other case.
 use Rattle.std.proofs.Common.{◌≡◌, ℕ, ◌<◌, ◌≤◌, List, [], ◌∷◌, Some, None, sym, ◌∙◌, ap, subst, arith}
 use Rattle.std.proofs.lemmas.Option.{same_Some}
+use Rattle.lz_base.proofs.ListLemmas.{cons_parts}
 use Rattle.lz_tree.specs.Trees.{TranslationUnit}
 use Rattle.lz_tree.specs.ScopedTrees.{ScopedProgram}
 use Rattle.lz_scopes.specs.declared.fault.Fault.{Fault}
@@ -21,9 +22,6 @@ use Rattle.lz_cli.proofs.SourceLemmas.{OneTree, one_tree}
 empty_list : {P : Type 0} (first : Fault) (rest : List Fault) → [] ≡ first ∷ rest → P
 empty_list first rest e = absurd cc
 
-same_first : (a b : Fault) (xs ys : List Fault) → a ∷ xs ≡ b ∷ ys → a ≡ b
-same_first a b xs ys e = cc
-
 pub same_accepted : OneTree → (bytes : List ℕ) (t u : TranslationUnit) → IsAccepted bytes t → IsAccepted bytes u → t ≡ u
 same_accepted one bytes t u a b = one_tree one bytes t u a.of b.of
 
@@ -39,7 +37,7 @@ pub one_faulty : OneTree → (bytes : List ℕ) (line rule l r : ℕ) → IsFaul
 one_faulty one bytes line rule l r a b =
     let same : b.tree ≡ a.tree = one_tree one bytes b.tree a.tree b.of a.of in
     let faults : AreFaults a.tree (b.first ∷ b.rest) = subst (λ (t : TranslationUnit). AreFaults t (b.first ∷ b.rest)) same b.faults in
-    let first : a.first ≡ b.first = same_first a.first b.first a.rest b.rest (one_list a.tree (a.first ∷ a.rest) (b.first ∷ b.rest) a.faults faults) in
+    let first : a.first ≡ b.first = (cons_parts (one_list a.tree (a.first ∷ a.rest) (b.first ∷ b.rest) a.faults faults)).0 in
     let lines : line ≡ l = a.told_line ∙ ap (λ (f : Fault). f.line) first ∙ sym b.told_line in
     let rules : rule ≡ r = a.told_rule ∙ ap (λ (f : Fault). number_of f.rule) first ∙ sym b.told_rule in
     ap (λ (n : ℕ). Faulty n rule) lines ∙ ap (λ (n : ℕ). Faulty l n) rules

@@ -1,13 +1,8 @@
 -- A text has at most one first line without a reading, and none where it is a schedule.
 use Rattle.std.proofs.Common.{◌≡◌, ℕ, suc, ◌+◌, List, [], ◌∷◌, ◌++◌, length, refl, sym, ◌∙◌, ap, subst}
+use Rattle.lz_base.proofs.ListLemmas.{cons_parts}
 use Rattle.lz_model.specs.declared.schedule.Step.{Step}
 use Rattle.lz_model.specs.ScheduleText.{Reads, ReadLines, IsFirstBad}
-
-same_head : (x y : List ℕ) (xs ys : List (List ℕ)) → x ∷ xs ≡ y ∷ ys → x ≡ y
-same_head x y xs ys e = cc
-
-same_tail : (x y : List ℕ) (xs ys : List (List ℕ)) → x ∷ xs ≡ y ∷ ys → xs ≡ ys
-same_tail x y xs ys e = cc
 
 -- each of the lines that have a reading has one
 read_middle : (front : List (List ℕ)) (line : List ℕ) (back : List (List ℕ)) (steps : List Step) → ReadLines (front ++ line ∷ back) steps → (some : List Step) × Reads line some
@@ -24,11 +19,11 @@ same_fronts : (f g : List (List ℕ)) (x y : List ℕ) (b c : List (List ℕ)) (
     → ((some : List Step) → Reads x some → ⊥) → ((some : List Step) → Reads y some → ⊥) → length f ≡ length g
 same_fronts [] [] x y b c s t e r q bad worse = refl
 same_fronts [] (k ∷ g) x y b c s t e r q bad worse =
-    let same : k ≡ x = sym (same_head x k b (g ++ y ∷ c) e) in absurd (bad q.0 (subst (λ (l : List ℕ). Reads l q.0) same q.2))
+    let same : k ≡ x = sym (cons_parts e).0 in absurd (bad q.0 (subst (λ (l : List ℕ). Reads l q.0) same q.2))
 same_fronts (h ∷ f) [] x y b c s t e r q bad worse =
-    let same : h ≡ y = same_head h y (f ++ x ∷ b) c e in absurd (worse r.0 (subst (λ (l : List ℕ). Reads l r.0) same r.2))
+    let same : h ≡ y = (cons_parts e).0 in absurd (worse r.0 (subst (λ (l : List ℕ). Reads l r.0) same r.2))
 same_fronts (h ∷ f) (k ∷ g) x y b c s t e r q bad worse =
-    ap suc (same_fronts f g x y b c r.1 q.1 (same_tail h k (f ++ x ∷ b) (g ++ y ∷ c) e) r.3 q.3 bad worse)
+    ap suc (same_fronts f g x y b c r.1 q.1 (cons_parts e).1 r.3 q.3 bad worse)
 
 pub one_first_bad : (lines : List (List ℕ)) (a b : ℕ) → IsFirstBad lines a → IsFirstBad lines b → a ≡ b
 one_first_bad lines a b p q =

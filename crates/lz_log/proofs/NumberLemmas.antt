@@ -11,6 +11,7 @@ use Rattle.std.specs.List.{prefix_len}
 use Rattle.std.specs.Str.Parse.{AllDigits, digits_value}
 use Rattle.lz_log.specs.ProofReading.{IsNumber}
 use Rattle.lz_log.specs.Pieces.{number_cap, IsCapped, NoDigit, HasNumber, TellsNumber, HasBounded}
+use Rattle.lz_base.proofs.ListLemmas.{cons_parts}
 use Rattle.lz_base.proofs.NumeralLemmas.{decimal_numerals}
 
 -- a digit's byte
@@ -35,16 +36,13 @@ front_digits (c ∷ bytes) =
       | inr other ↦ rw (le-ltb (digit_value c) 10 other) (tt, other)
     ]
 
-cons_parts : (x y : ℕ) (xs ys : List ℕ) → x ∷ xs ≡ y ∷ ys → (x ≡ y) × (xs ≡ ys)
-cons_parts x y xs ys e = (ap (λ l. get_or l 0 0) e, ap (λ l. drop 1 l) e)
-
 -- digits end where the first byte that is none stands
 pub same_front : (ds es r s : List ℕ) → AllDigits 10 ds → AllDigits 10 es → NoDigit r → NoDigit s → ds ++ r ≡ es ++ s → (ds ≡ es) × (r ≡ s)
 same_front [] [] r s hd he nr ns e = (refl, e)
 same_front [] (x ∷ es) r s hd he nr ns e = absurd (let h : 10 ≤ digit_value x = rw e at nr in omega (arith, he.0))
 same_front (x ∷ ds) [] r s hd he nr ns e = absurd (let h : 10 ≤ digit_value x = rw (← e) at ns in omega (arith, hd.0))
 same_front (x ∷ ds) (y ∷ es) r s hd he nr ns e =
-    let p = cons_parts x y (ds ++ r) (es ++ s) e in
+    let p = cons_parts e in
     let q = same_front ds es r s hd.1 he.1 nr ns p.1 in
     (rw (p.0, q.0) refl, q.1)
 

@@ -4,6 +4,7 @@ use Rattle.std.proofs.lemmas.Bool.{eqb-true}
 use Rattle.std.proofs.lemmas.Bool.Decides.{nat_tests}
 use Rattle.std.proofs.lemmas.List.{append-nil}
 use Rattle.lz_base.specs.declared.word.BreakKind.{BreakKind}
+use Rattle.lz_base.proofs.ListLemmas.{cons_parts}
 use Rattle.lz_tree.specs.ScopedTrees.{ScopedProgram}
 use Rattle.lz_model.specs.declared.actions.Action.{Action}
 use Rattle.lz_model.specs.declared.actions.Action.TheVariants.{Input, Rd, Signal, Create}
@@ -118,30 +119,24 @@ not_itself a (puts_in line v w h e k) = let z : Input v ≡ Input w = ap (λ (x 
 not_itself a (wakes line number v w h e k) = let z : Signal number v ≡ Signal number w = ap (λ (x : Act). x.action) (sym e ∙ k) in h cc
 not_itself a (makes line v w routine argument h e k) = let z : Create v routine argument ≡ Create w routine argument = ap (λ (x : Act). x.action) (sym e ∙ k) in h cc
 
-first_is : (a b : Act) (xs ys : List Act) → a ∷ xs ≡ b ∷ ys → a ≡ b
-first_is a b xs ys e = cc
-
-rest_is : (a b : Act) (xs ys : List Act) → a ∷ xs ≡ b ∷ ys → xs ≡ ys
-rest_is a b xs ys e = cc
-
 stops_there : (p : List Act) (a b : Act) (r s more : List Act) → p ++ b ∷ s ≡ (p ++ a ∷ r) ++ more → b ≡ a
-stops_there [] a b r s more e = first_is b a s (r ++ more) e
-stops_there (x ∷ p) a b r s more e = stops_there p a b r s more (rest_is x x (p ++ b ∷ s) ((p ++ a ∷ r) ++ more) e)
+stops_there [] a b r s more e = (cons_parts e).0
+stops_there (x ∷ p) a b r s more e = stops_there p a b r s more (cons_parts e).1
 
 parts_there : (p front : List Act) (a b one other : Act) (r s rest more : List Act) → IsAnswered one other → p ++ a ∷ r ≡ front ++ one ∷ rest → p ++ b ∷ s ≡ front ++ other ∷ more
     → (a ≡ b) ⊎ IsAnswered a b
 parts_there [] [] a b one other r s rest more h e k =
-    let left = first_is a one r rest e in
-    let right = first_is b other s more k in
+    let left = (cons_parts e).0 in
+    let right = (cons_parts k).0 in
     inr (subst (λ (x : Act). IsAnswered x b) (sym left) (subst (λ (x : Act). IsAnswered one x) (sym right) h))
 parts_there [] (x ∷ front) a b one other r s rest more h e k =
-    inl (first_is a x r (front ++ one ∷ rest) e ∙ sym (first_is b x s (front ++ other ∷ more) k))
+    inl ((cons_parts e).0 ∙ sym (cons_parts k).0)
 parts_there (x ∷ p) [] a b one other r s rest more h e k =
-    let left = first_is x one (p ++ a ∷ r) rest e in
-    let right = first_is x other (p ++ b ∷ s) more k in
+    let left = (cons_parts e).0 in
+    let right = (cons_parts k).0 in
     absurd (not_itself x (subst (λ (y : Act). IsAnswered y x) (sym left) (subst (λ (y : Act). IsAnswered one y) (sym right) h)))
 parts_there (x ∷ p) (y ∷ front) a b one other r s rest more h e k =
-    parts_there p front a b one other r s rest more h (rest_is x y (p ++ a ∷ r) (front ++ one ∷ rest) e) (rest_is x y (p ++ b ∷ s) (front ++ other ∷ more) k)
+    parts_there p front a b one other r s rest more h (cons_parts e).1 (cons_parts k).1
 
 -- what comes next behind the same actions is the same, or is answered differently
 next_alike : (p : List Act) (a b : Act) (r s : List Act) → Alike (p ++ a ∷ r) (p ++ b ∷ s) → (a ≡ b) ⊎ IsAnswered a b

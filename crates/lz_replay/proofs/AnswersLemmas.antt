@@ -4,6 +4,7 @@ use Rattle.std.proofs.lemmas.Bool.{eqb-true, eqb-false}
 use Rattle.std.proofs.lemmas.Bool.Decides.{nat_tests}
 use Rattle.std.proofs.lemmas.Option.{same_Some}
 use Rattle.lz_base.specs.Words.{value_bound}
+use Rattle.lz_base.proofs.ListLemmas.{cons_parts}
 use Rattle.lz_tree.specs.ScopedTrees.{ScopedProgram}
 use Rattle.lz_model.specs.declared.actions.Action.{Action}
 use Rattle.lz_model.specs.declared.actions.Action.TheVariants.{Loc, Input, Check, Assume, Rd, Wr, Reset, Lock, Unlock, Park, Wake, Signal, Broadcast, Create, Join, HoldOn, HoldOff, End}
@@ -141,9 +142,6 @@ module _ (p : ScopedProgram) (n : ℕ) where
   pub may_stop : (thread : Thread) → MayDo p n thread []
   may_stop thread = stop_at thread.whole thread.standing
 
-  first_is : (a b : Act) (xs ys : List Act) → a ∷ xs ≡ b ∷ ys → (a ≡ b) × (xs ≡ ys)
-  first_is a b xs ys e = (cc, cc)
-
   module _ (before after : Thread) (choice : ℕ) where
     -- ---- an action
 
@@ -151,7 +149,7 @@ module _ (p : ScopedProgram) (n : ℕ) where
       behind_act : (a : Act) (rest : List Act) → choice_of a.action ≡ Some choice → MayDo p n before (a ∷ rest) → (o : Action) × (a ≡ at line o) × StandsFor action o × MayDo p n after rest
       behind_act a rest chosen h = elim (is.there (a ∷ rest) (asked_of a.action choice chosen) h) [
         | inl e ↦ absurd cc
-        | inr b ↦ let parts = first_is a (at line b.0) rest b.1 b.3 in (b.0, parts.0, b.2, subst (λ (xs : List Act). MayDo p n after xs) (sym parts.1) b.4)
+        | inr b ↦ let parts = cons_parts b.3 in (b.0, parts.0, b.2, subst (λ (xs : List Act). MayDo p n after xs) (sym parts.1) b.4)
       ]
 
       act_behind : (rest : List Act) → choice_of action ≡ Some choice → MayDo p n after rest → MayDo p n before (at line action ∷ rest)
@@ -185,7 +183,7 @@ module _ (p : ScopedProgram) (n : ℕ) where
           → (word : ℕ) × (word < value_bound) × (a ≡ at line (Rd cell word)) × MayDo p n (read_back (Some word) after) rest
       behind_read a rest chosen h = elim (is.there (a ∷ rest) (asked_of a.action choice chosen) h) [
         | inl e ↦ absurd cc
-        | inr b ↦ let parts = first_is a (at line (Rd cell b.0)) rest b.1 b.3 in (b.0, b.2, parts.0, subst (λ (xs : List Act). MayDo p n (read_back (Some b.0) after) xs) (sym parts.1) b.4)
+        | inr b ↦ let parts = cons_parts b.3 in (b.0, b.2, parts.0, subst (λ (xs : List Act). MayDo p n (read_back (Some b.0) after) xs) (sym parts.1) b.4)
       ]
 
       finds : (s : State) (t : ℕ) (a : Act) (word : ℕ) → a ≡ at line (Rd cell word) → act s t a.action ≢ blocked → word ≡ slice_index s.cells cell

@@ -2,6 +2,7 @@
 use Rattle.std.proofs.Common.{◌≡◌, ℕ, zero, suc, ◌+◌, ◌<◌, ◌≤◌, List, [], ◌∷◌, ◌++◌, take, drop, Option, Some, None, refl, sym, ◌∙◌, ap, subst, arith}
 use Rattle.std.proofs.lemmas.List.{take-append-drop}
 use Rattle.lz_base.specs.declared.word.BreakKind.{BreakKind}
+use Rattle.lz_base.proofs.ListLemmas.{cons_parts}
 use Rattle.lz_tree.specs.ScopedTrees.{ScopedProgram}
 use Rattle.lz_model.specs.declared.actions.Event.{Event}
 use Rattle.lz_model.specs.declared.schedule.Step.{Step}
@@ -31,9 +32,6 @@ no_steps : (xs ys : List Step) → [] ≡ xs ++ ys → (xs ≡ []) × (ys ≡ []
 no_steps [] ys e = (refl, sym e)
 no_steps (x ∷ xs) ys e = absurd cc
 
-first_step : (s x : Step) (steps xs : List Step) → s ∷ steps ≡ x ∷ xs → (s ≡ x) × (steps ≡ xs)
-first_step s x steps xs e = (cc, cc)
-
 split_event : (e : Event) (run : List Event) (o : Option ℕ) → choice_of e.action ≡ o → (xs ys : List Step) → step_with e.thread o ++ schedule_of run ≡ xs ++ ys
     → ((xs ys : List Step) → schedule_of run ≡ xs ++ ys → Splits run xs ys) → Splits (e ∷ run) xs ys
 split_event e run None c xs ys is later =
@@ -41,7 +39,7 @@ split_event e run None c xs ys is later =
     record { front = e ∷ found.front; rest = found.rest; are = ap (λ (es : List Event). e ∷ es) found.are; left = rw c found.left; right = found.right }
 split_event e run (Some choice) c [] ys is later = record { front = []; rest = e ∷ run; are = refl; left = refl; right = rw c is }
 split_event e run (Some choice) c (x ∷ xs) ys is later =
-    let first = first_step (record { thread = e.thread; choice = choice }) x (schedule_of run) (xs ++ ys) is in
+    let first = cons_parts is in
     let found = later xs ys first.1 in
     record {
       front = e ∷ found.front;
