@@ -8,6 +8,7 @@ use Rattle.std.specs.Fmt.{decimal}
 use Rattle.std.specs.Str.{bytes_eq, IsAscii}
 use Rattle.std.specs.Result.{result_ok, OkIff}
 use Rattle.std.specs.Str.Parse.{AllDigits, digits_value, ParsesUnsigned}
+use Rattle.std.proofs.Math.Seq.{take-append_seam}
 use Rattle.std.proofs.lemmas.Bool.{and_parts, or_right}
 use Rattle.std.proofs.lemmas.Bool.Decides.{nat_tests, Decides-eqb}
 use Rattle.std.proofs.lemmas.Slice.Eq.{starts_is, bytes_eq-Decides}
@@ -152,10 +153,6 @@ others (d ∷ ds) h rest =
     not_space : (c : ℕ) → IsInRange 48 57 c → eqb c 32 ≡ false
     not_space c h = grind (arith, nat_tests)
 
-take_front : (front rest : List ℕ) → take (length front) (front ++ rest) ≡ front
-take_front [] rest = refl
-take_front (b ∷ front) rest = ap (λ (xs : List ℕ). b ∷ xs) (take_front front rest)
-
 drop_past : (front rest : List ℕ) (n : ℕ) → n ≡ length front + 1 → drop n (front ++ 32 ∷ rest) ≡ rest
 drop_past [] rest n e = let one : n ≡ 1 = omega arith in ap (λ (k : ℕ). drop k (32 ∷ rest)) one
 drop_past (b ∷ front) rest n e =
@@ -202,7 +199,7 @@ numbers_read s within =
     let front = others (decimal t) (digits_decimal decimal_numerals t small) (decimal c) in
     let longer = long (decimal t) (decimal c) in
     let differ : eqb (length (decimal t)) (length (decimal t ++ 32 ∷ decimal c)) ≡ false = unequal (length (decimal t)) (length (decimal t ++ 32 ∷ decimal c)) longer in
-    rw (front, differ, take_front (decimal t) (32 ∷ decimal c), drop_past (decimal t) (decimal c) (length (decimal t) + 1) refl, number_read t small, number_read c within.choice, below t within.thread) refl
+    rw (front, differ, take-append_seam (decimal t) (32 ∷ decimal c), drop_past (decimal t) (decimal c) (length (decimal t) + 1) refl, number_read t small, number_read c within.choice, below t within.thread) refl
   where
     long : (xs ys : List ℕ) → length xs < length (xs ++ 32 ∷ ys)
     long [] ys = omega arith

@@ -1,6 +1,7 @@
 -- Statements leave the scopes around them as they were, but for what they declare; and the ends of scopes and of
 -- functions.
-use Rattle.std.proofs.Common.{◌≡◌, ℕ, ◌+◌, ◌-◌, ◌<◌, ◌≤◌, Bool, true, false, List, [], ◌∷◌, ◌++◌, length, take, Option, Some, None, refl, sym, ap, ◌∙◌, arith, append_assoc, append-nil}
+use Rattle.std.proofs.Common.{◌≡◌, ℕ, ◌+◌, ◌-◌, ◌<◌, ◌≤◌, Bool, true, false, List, [], ◌∷◌, ◌++◌, length, Option, Some, None, refl, sym, ◌∙◌, arith, append_assoc, append-nil}
+use Rattle.std.proofs.Math.Seq.{take-append_seam}
 use Rattle.std.proofs.lemmas.List.{length-append}
 use Rattle.lz_tree.specs.declared.expression.TypeName.{TypeName}
 use Rattle.lz_tree.specs.declared.program.Param.{Param}
@@ -73,10 +74,6 @@ mutual
   kept_all p nil = kept_same p
   kept_all p (cons s rest) = kept_both p (after p s) (after_all (after p s) rest) (kept p s) (kept_all (after p s) rest)
 
-take_front : {A : Type 0} (xs ys : List A) → take (length xs) (xs ++ ys) ≡ xs
-take_front [] ys = refl
-take_front (x ∷ xs) ys = ap (λ (l : List _). x ∷ l) (take_front xs ys)
-
 -- ---- the end of a scope
 
 -- A place within a scope that began at another one.
@@ -95,7 +92,7 @@ inside_kept false p q k = record { more = k.more; names = k.names; functions = k
 pub closes : (p q : Place) (mark : ℕ) → Inside p q → mark ≡ length p.names → ended mark p.in_loop q ≡ behind p q
 closes p q mark k is =
     let depth : q.depth - 1 ≡ p.depth = (let d = k.depth in omega arith) in
-    rw (is, k.names, take_front p.names k.more, k.functions, k.function, k.gives, depth) refl
+    rw (is, k.names, take-append_seam p.names k.more, k.functions, k.function, k.gives, depth) refl
 
 pub closable : (p q : Place) (mark : ℕ) → Inside p q → mark ≡ length p.names → mark ≤ length q.names
 closable p q mark k is = let n = length-append p.names k.more in rw k.names (omega arith)
@@ -200,9 +197,9 @@ below_top p q name w = let d = w.depth in omega arith
 pub function_behind : (p q : Place) (name : ℕ) (outer : Outer) → InFunction p q name → outer ≡ outer_of p → left_function outer q ≡ past p name q
 function_behind p q name outer w is =
     let depth : q.depth - 1 ≡ p.depth = (let d = w.depth in omega arith) in
-    rw (is, w.names, take_front p.names w.more, w.functions, w.function, depth) refl
+    rw (is, w.names, take-append_seam p.names w.more, w.functions, w.function, depth) refl
 
 pub prototype_behind : (p q : Place) (name : ℕ) (outer : Outer) → InFunction p q name → outer ≡ outer_of p → left_prototype outer q ≡ with_function p name
 prototype_behind p q name outer w is =
     let depth : q.depth - 1 ≡ p.depth = (let d = w.depth in omega arith) in
-    rw (is, w.names, take_front p.names w.more, w.functions, w.function, depth) refl
+    rw (is, w.names, take-append_seam p.names w.more, w.functions, w.function, depth) refl
