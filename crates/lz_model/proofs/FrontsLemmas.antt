@@ -5,6 +5,7 @@ use Rattle.lz_base.specs.declared.word.BreakKind.TheVariants as kinds
 use Rattle.lz_base.specs.declared.word.IntType.{IntType}
 use Rattle.lz_base.specs.declared.word.IntType.TheVariants as kind_types
 use Rattle.lz_base.specs.Words.{is_true, truth, converted}
+use Rattle.lz_base.proofs.ListLemmas.{nil_front}
 use Rattle.std.specs.Prelude.{slice_index, nat_lt}
 use Rattle.lz_base.specs.declared.operator.Binary.{Binary}
 use Rattle.lz_base.specs.declared.operator.Binary.TheVariants as ops
@@ -32,10 +33,6 @@ unfolding tail_of
 splits [] b c d e = inl (c, refl)
 splits (x ∷ a) b [] d e = inr (x ∷ a, refl, sym e)
 splits (x ∷ a) b (y ∷ c) d e = elim (splits a b c d (ap tail_of e)) [ inl z ↦ inl (z.0, cc) | inr z ↦ inr (z.0, cc, z.2) ]
-
-nil_front : (a b : List Act) → a ++ b ≡ [] → a ≡ []
-nil_front [] b e = refl
-nil_front (x ∷ a) b e = absurd cc
 
 one_front : (act : Act) (a b : List Act) → a ++ b ≡ act ∷ [] → (a ≡ []) ⊎ (a ≡ act ∷ [])
 unfolding tail_of

@@ -3,6 +3,7 @@ use Rattle.std.proofs.Common.{◌≡◌, ℕ, zero, suc, ◌+◌, ◌<◌, ◌�
 use Rattle.std.specs.List.{Contains}
 use Rattle.std.proofs.lemmas.Bool.{cases_Bool, eqb-true, false≢true}
 use Rattle.std.proofs.lemmas.List.{length-map}
+use Rattle.lz_base.proofs.ListLemmas.{nil_front as front, nil_back as back}
 use Rattle.lz_tree.specs.declared.expression.TypeName.{TypeName}
 use Rattle.lz_tree.specs.declared.program.Param.{Param}
 use Rattle.lz_tree.specs.declared.scoped.Object.{Object}
@@ -37,14 +38,6 @@ use Rattle.lz_types.specs.Faults.{at, node, target, faults, index_faults, all_fa
 use Rattle.lz_calls.proofs.FactsLemmas.{row_at}
 
 -- ---- lists without items
-
-front : {A : Type 0} (xs ys : List A) → xs ++ ys ≡ [] → xs ≡ []
-front [] ys e = refl
-front (x ∷ xs) ys e = absurd cc
-
-back : {A : Type 0} (xs ys : List A) → xs ++ ys ≡ [] → ys ≡ []
-back [] ys e = e
-back (x ∷ xs) ys e = absurd cc
 
 no_rules : (line : ℕ) (rules : List Rule) → at line rules ≡ [] → rules ≡ []
 no_rules line [] e = refl
