@@ -1,6 +1,6 @@
 -- What is said of a program's rules, slots, cost and first choice excludes every other case.
 use Rattle.std.proofs.Common.{◌≡◌, ℕ, ◌<◌, ◌≤◌, List, [], ◌∷◌, Some, None, sym, ◌∙◌, ap, subst, arith}
-use Rattle.std.proofs.lemmas.Option.{same_Some}
+use Rattle.std.proofs.lemmas.Option.{none-some, same_Some}
 use Rattle.lz_base.proofs.ListLemmas.{cons_parts}
 use Rattle.lz_tree.specs.Trees.{TranslationUnit}
 use Rattle.lz_tree.specs.ScopedTrees.{ScopedProgram}
@@ -74,12 +74,9 @@ one_cost one bounds bytes n m a b =
 pub same_program : OneTree → {bounds : Bounds} {bytes : List ℕ} (a b : IsAdmitted bounds bytes) → scoped_of a.tree ≡ scoped_of b.tree
 same_program one {bounds} {bytes} a b = ap scoped_of (same_accepted one bytes a.tree b.tree a.accepted b.accepted)
 
-none_some : {P : Type 0} (line : ℕ) → None ≡ Some line → P
-none_some line e = absurd cc
-
 -- no program has a choice and none
 pub no_choice_chosen : {P : Type 0} {p q : ScopedProgram} {line : ℕ} → p ≡ q → first_choice p ≡ None → first_choice q ≡ Some line → P
-no_choice_chosen {P} {p} {q} {line} same none some = none_some line (sym none ∙ ap first_choice same ∙ some)
+no_choice_chosen {P} {p} {q} {line} same none some = absurd (none-some line (sym none ∙ ap first_choice same ∙ some))
 
 -- one choice is the first
 pub one_choice : {p q : ScopedProgram} {line other : ℕ} → p ≡ q → first_choice p ≡ Some line → first_choice q ≡ Some other → line ≡ other

@@ -3,6 +3,7 @@ use Rattle.std.proofs.Common.{◌≡◌, ℕ, zero, suc, ◌+◌, ◌<◌, ◌�
 use Rattle.std.specs.List.{Contains}
 use Rattle.std.proofs.lemmas.Bool.{cases_Bool, eqb-true, false≢true}
 use Rattle.std.proofs.lemmas.List.{length-map}
+use Rattle.std.proofs.lemmas.Option.{none-some}
 use Rattle.lz_base.proofs.ListLemmas.{nil_front as front, nil_back as back}
 use Rattle.lz_tree.specs.declared.expression.TypeName.{TypeName}
 use Rattle.lz_tree.specs.declared.program.Param.{Param}
@@ -81,29 +82,26 @@ number (Some (Cond first len)) = None
 number (Some (Handle first len)) = None
 number (Some (Known name)) = None
 
-none_some : {A : Type 0} {P : Type 0} (x : A) → None ≡ Some x → P
-none_some x e = absurd cc
-
 pick_in : (b : Bool) (n m l : ℕ) (o : Option ℕ) → (o ≡ Some m → m < (n + 1) + l) → (if b then Some n else o) ≡ Some m → m < n + suc l
 pick_in true n m l o h e = let same : n ≡ m = cc in omega (arith, same)
 pick_in false n m l o h e = let g : m < (n + 1) + l = h e in omega (arith, g)
 
 from_within : (n : ℕ) (fs : List Signature) (name m : ℕ) → function_from n fs name ≡ Some m → m < n + length fs
-from_within n [] name m e = none_some m e
+from_within n [] name m e = absurd (none-some m e)
 from_within n (f ∷ rest) name m e =
     pick_in (f.name == name) n m (length rest) (function_from (n + 1) rest name) (λ r. from_within (n + 1) rest name m r) e
 
 known_number : (k : KnownName) (d : Option ℕ) (n : ℕ) → number (function_meant (Some k) d) ≡ Some n → d ≡ Some n
 unfolding number
 known_number ReachError (Some m) n e = e
-known_number ReachError None n e = none_some n e
-known_number _ (Some m) n e = none_some n e
-known_number _ None n e = none_some n e
+known_number ReachError None n e = absurd (none-some n e)
+known_number _ (Some m) n e = absurd (none-some n e)
+known_number _ None n e = absurd (none-some n e)
 
 meant_number : (e : Option Entry) (k : Option KnownName) (d : Option ℕ) (n : ℕ) → number (called_by e k d) ≡ Some n → d ≡ Some n
 unfolding number
-meant_number (Some e) k d n is = none_some n is
-meant_number None None None n is = none_some n is
+meant_number (Some e) k d n is = absurd (none-some n is)
+meant_number None None None n is = absurd (none-some n is)
 meant_number None None (Some m) n is = is
 meant_number None (Some k) d n is = known_number k d n is
 
@@ -120,18 +118,18 @@ lead_called file f (Some (Known name)) h = tt
 
 routine_of : (o : Option Object) (n : ℕ) → number o ≡ Some n → o ≡ Some (Routine n)
 unfolding number
-routine_of None n e = none_some n e
+routine_of None n e = absurd (none-some n e)
 routine_of (Some (Routine m)) n e = ap (λ (x : Option ℕ). again x) e
   where
     again : Option ℕ → Option Object
     again None = None
     again (Some x) = Some (Routine x)
-routine_of (Some (Local first len kind)) n e = none_some n e
-routine_of (Some (Cell first len kind)) n e = none_some n e
-routine_of (Some (Mutex first len)) n e = none_some n e
-routine_of (Some (Cond first len)) n e = none_some n e
-routine_of (Some (Handle first len)) n e = none_some n e
-routine_of (Some (Known name)) n e = none_some n e
+routine_of (Some (Local first len kind)) n e = absurd (none-some n e)
+routine_of (Some (Cell first len kind)) n e = absurd (none-some n e)
+routine_of (Some (Mutex first len)) n e = absurd (none-some n e)
+routine_of (Some (Cond first len)) n e = absurd (none-some n e)
+routine_of (Some (Handle first len)) n e = absurd (none-some n e)
+routine_of (Some (Known name)) n e = absurd (none-some n e)
 
 late_ahead : (file : File) (place : Place) (f n : ℕ) (o : Option Object) (args : Expressions) → around place ≡ Some f → late_call file place o args ≡ []
     → number o ≡ Some n → returns_to file f n ≡ false
