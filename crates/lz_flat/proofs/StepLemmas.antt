@@ -1,8 +1,9 @@
 -- One turn of a step of a thread, its end, and the instructions that are passed over.
 use Rattle.std.proofs.Common.{◌≡◌, ℕ, zero, suc, ◌+◌, ◌-◌, ◌≤◌, ◌<◌, Bool, true, false, cond, List, [], ◌∷◌, length, map, drop, get_or, eqb, slice_index_or, All, Ok, Err, refl, sym, ◌∙◌, ap, subst, arith}
 use Rattle.std.specs.List.{AllByRecursion}
-use Rattle.std.proofs.lemmas.List.{drop_more, drop_all, drop-drop, drop-map}
+use Rattle.std.proofs.lemmas.List.{drop_all, drop-drop, drop-map}
 use Rattle.lz_base.specs.declared.word.BreakKind.{BreakKind}
+use Rattle.lz_base.proofs.ListLemmas.{drop_item}
 use Rattle.lz_flat.specs.declared.perform.Halt.{Halt}
 use Rattle.lz_flat.specs.declared.perform.Halt.TheVariants as halts
 use Rattle.lz_flat.specs.declared.program.Marked.{Marked}
@@ -132,10 +133,6 @@ onward_breaks : (input : ℕ → ℕ) (l : ℕ) (first : MarkedInstruction) (res
 unfolding onward
 onward_breaks input l first rest memory kind line v e = rw (v, e) refl
 
--- what is left at a place is its instruction and what is left behind it
-more_at : (code : List Marked) (at : ℕ) (next : Marked) → at < length code → next ≡ get_or code at next → drop at code ≡ next ∷ drop (at + 1) code
-more_at code at next lt e = drop_more code at next lt ∙ ap (λ (x : Marked). x ∷ drop (at + 1) code) (sym e)
-
 -- what is left behind the instructions passed over, as definitions read it
 behind_drop : (code : List Marked) (at over : ℕ) → drop over (map marked (drop (at + 1) code)) ≡ map marked (drop (at + (1 + over)) code)
 behind_drop code at over =
@@ -147,7 +144,7 @@ pub left_moves : (code : List Marked) (input : ℕ → ℕ) (from : ℕ) (start 
     → Performs (instruction next.instr) (input at) memory after (Ok over) → All IsWord after → length after ≡ length memory
     → LeftFrom code input from start (at + (1 + over)) (used + 1) after
 left_moves code input from start at used memory after next over n left is lt e v performs words size =
-    let more = more_at code at next lt e in
+    let more = drop_item code at next lt e in
     let rest = map marked (drop (at + 1) code) in
     let place : suc at + over ≡ at + (1 + over) = omega arith in
     let fact = instruction_at n code at next is lt e in
@@ -175,7 +172,7 @@ pub left_breaks : (code : List Marked) (input : ℕ → ℕ) (from : ℕ) (start
     → Performs (instruction next.instr) (input at) memory after (Err (halts.Broke kind line))
     → onward input from (drop from (map marked code)) 0 start ≡ breaks kind line
 left_breaks code input from start at used memory after next kind line left lt e v performs =
-    let more = more_at code at next lt e in
+    let more = drop_item code at next lt e in
     let rest = map marked (drop (at + 1) code) in
     let old = subst (λ (part : List Marked). onward input at (map marked part) 0 memory ≡ onward input from (map marked (drop from code)) 0 start) more left.same in
     rw (drop-map marked from code) (sym old ∙ onward_breaks input at (marked next) rest memory kind line v performs.0)
@@ -231,7 +228,7 @@ left_ends code input from start at used memory left h =
 pub left_stops : (code : List Marked) (input : ℕ → ℕ) (from : ℕ) (start : List ℕ) (at used : ℕ) (memory : List ℕ) (next : Marked) → LeftFrom code input from start at used memory → at < length code → next ≡ get_or code at next → next.visible ≡ true
     → EndsAt code input from start at used memory
 left_stops code input from start at used memory next left lt e v =
-    let more = more_at code at next lt e in
+    let more = drop_item code at next lt e in
     let rest = map marked (drop (at + 1) code) in
     let same = subst (λ (part : List Marked). onward input at (map marked part) 0 memory ≡ onward input from (map marked (drop from code)) 0 start) more left.same in
     let count = subst (λ (part : List Marked). used + onward_count input at (map marked part) 0 memory ≡ suc (onward_count input from (map marked (drop from code)) 0 start)) more left.count in
@@ -245,7 +242,7 @@ left_stops code input from start at used memory next left lt e v =
 
 -- what is left at a place, as definitions read it
 drop_marked : (code : List Marked) (at : ℕ) (next : Marked) → at < length code → next ≡ get_or code at next → drop at (map marked code) ≡ marked next ∷ map marked (drop (at + 1) code)
-drop_marked code at next lt e = drop-map marked at code ∙ ap (map marked) (more_at code at next lt e)
+drop_marked code at next lt e = drop-map marked at code ∙ ap (map marked) (drop_item code at next lt e)
 
 -- code has as many instructions as definitions read
 pub length_marked : (code : List Marked) → length (map marked code) ≡ length code

@@ -6,7 +6,7 @@ use Rattle.lz_tree.specs.declared.program.External.{External}
 use Rattle.lz_tree.specs.declared.statement.Declarator.{Declarator}
 use Rattle.lz_tree.specs.Trees.{ExternalDeclaration, objects, prototype, function, expression, expressions_of, init_declarator, external_declaration}
 use Rattle.lz_scopes.specs.Constants.{constant_value, elements}
-use Rattle.lz_scopes.proofs.ArgumentsLemmas.{drop_item}
+use Rattle.lz_base.proofs.ListLemmas.{drop_item}
 use Rattle.lz_resolve.specs.ScopedPrograms.{word_in, words_in, first_words, declarators_words, declaration_words, cells_of}
 
 -- Words so far, and those of the items that are left, are the words before and those of all.

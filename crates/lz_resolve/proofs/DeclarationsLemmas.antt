@@ -9,7 +9,7 @@ use Rattle.lz_tree.specs.ScopedTrees.{scoped_declarator}
 use Rattle.lz_scopes.specs.declared.place.Place.{Place}
 use Rattle.lz_scopes.specs.Files.{File}
 use Rattle.lz_scopes.specs.Scopes.{with_declarator, with_declarators}
-use Rattle.lz_scopes.proofs.ArgumentsLemmas.{drop_item}
+use Rattle.lz_base.proofs.ListLemmas.{drop_item}
 use Rattle.lz_resolve.specs.ScopedPrograms.{scope_declarator, scope_declarators}
 
 -- the declarators from a number on

@@ -13,7 +13,7 @@ use Rattle.lz_scopes.specs.declared.place.Place.{Place}
 use Rattle.lz_scopes.specs.Files.{File}
 use Rattle.lz_scopes.specs.ValueTypes.{value_type, kind_of, is_pointer}
 use Rattle.lz_scopes.specs.Scopes.{bases, is_one_pointer, after_body, with_function, into, with_param, with_params, with_declarator, with_declarators, after_external}
-use Rattle.lz_scopes.proofs.ArgumentsLemmas.{drop_item}
+use Rattle.lz_base.proofs.ListLemmas.{drop_item}
 use Rattle.lz_resolve.specs.ScopedPrograms.{value_kind, param_kinds, scope_body, scope_function, scope_external, scope_externals, after_externals}
 use Rattle.lz_resolve.proofs.DeclarationsLemmas.{left_from}
 

@@ -9,7 +9,7 @@ use Rattle.lz_tree.specs.ScopedTrees.{ScopedStatement, ScopedStatements, scoped_
 use Rattle.lz_scopes.specs.declared.place.Place.{Place}
 use Rattle.lz_scopes.specs.Files.{File}
 use Rattle.lz_scopes.specs.Scopes.{inside, after, after_all, after_body}
-use Rattle.lz_scopes.proofs.ArgumentsLemmas.{drop_item}
+use Rattle.lz_base.proofs.ListLemmas.{drop_item}
 use Rattle.lz_resolve.specs.ScopedPrograms.{scope_statement, scope_statements, scope_body}
 
 -- some statements before others

@@ -1,5 +1,5 @@
 -- Walking arguments from left to right: what is wanted of the next one, and what is left.
-use Rattle.std.proofs.Common.{◌≡◌, ℕ, zero, suc, ◌+◌, ◌<◌, ◌≤◌, Bool, true, false, not, ◌||◌, ◌&&◌, Option, Some, None, List, [], ◌∷◌, length, map, drop, get_or, refl, sym, ap, ◌∙◌, arith, drop-cons, drop_of_length-le}
+use Rattle.std.proofs.Common.{◌≡◌, ℕ, zero, suc, ◌+◌, ◌<◌, ◌≤◌, Bool, true, false, not, ◌||◌, ◌&&◌, Option, Some, None, List, [], ◌∷◌, length, map, drop, get_or, refl, sym, ap, arith, drop_of_length-le}
 use Rattle.std.proofs.Math.Bool.{not-not}
 use Rattle.lz_tree.specs.declared.expression.Expr.{Expr}
 use Rattle.lz_tree.specs.Trees.{Expressions, none, and, expression, expressions_of}
@@ -11,10 +11,7 @@ use Rattle.lz_scopes.specs.Files.{File}
 use Rattle.lz_scopes.specs.RuleLists.{rule_list}
 use Rattle.lz_scopes.specs.ExpressionTypes.{count, first_want, rest_of, misplaced, is_broken, some_misplaced, is_none_of}
 use Rattle.lz_base.proofs.BoolLemmas.{first_fails, first_holds, first_suffices}
-
--- the item at a place, and what is behind it
-pub drop_item : {A : Type 0} (xs : List A) (i : ℕ) (x : A) → i < length xs → x ≡ get_or xs i x → drop i xs ≡ x ∷ drop (i + 1) xs
-drop_item xs i x below is = let more : suc i ≡ i + 1 = omega arith in drop-cons xs i x below ∙ rw (sym is, more) refl
+use Rattle.lz_base.proofs.ListLemmas.{drop_item}
 
 -- the wants behind a place
 pub rest_drop : (ws : List Want) (i : ℕ) → rest_of (drop i ws) ≡ drop (i + 1) ws

@@ -9,7 +9,7 @@ use Rattle.lz_scopes.specs.Names.{or}
 use Rattle.lz_scopes.specs.Scopes.{signature_in, signatures}
 use Rattle.lz_scopes.specs.Files.{File, function_from, function_named, main_from, name_from}
 use Rattle.lz_scopes.specs.Defined.{HasDefined}
-use Rattle.lz_scopes.proofs.ArgumentsLemmas.{drop_item}
+use Rattle.lz_base.proofs.ListLemmas.{drop_item}
 
 -- ---- lists
 

@@ -9,7 +9,7 @@ use Rattle.lz_scopes.specs.declared.place.Place.{Place}
 use Rattle.lz_scopes.specs.Files.{File}
 use Rattle.lz_scopes.specs.ValueTypes.{are_one_list}
 use Rattle.lz_scopes.specs.Scopes.{bases, with_param, with_params, after_external}
-use Rattle.lz_scopes.proofs.ArgumentsLemmas.{drop_item}
+use Rattle.lz_base.proofs.ListLemmas.{drop_item}
 use Rattle.lz_types.specs.Faults.{at, param_rules, params_faults, external_faults, externals_faults}
 use Rattle.lz_types.specs.Parts.{is_one_at}
 use Rattle.lz_base.proofs.BoolLemmas.{first_fails, first_holds}

@@ -9,7 +9,7 @@ use Rattle.lz_scopes.specs.declared.place.Place.{Place}
 use Rattle.lz_scopes.specs.Files.{File}
 use Rattle.lz_scopes.specs.Scopes.{after, after_all, with_declarator, with_declarators}
 use Rattle.lz_types.specs.Faults.{whole_declarator_faults, declarators_faults, statement_faults, statements_faults}
-use Rattle.lz_scopes.proofs.ArgumentsLemmas.{drop_item}
+use Rattle.lz_base.proofs.ListLemmas.{drop_item}
 
 -- ---- declarators in a row
 
