@@ -15,7 +15,7 @@ use Rattle.lz_calls.specs.Heights.{capped, body_height, height_through, greatest
 use Rattle.lz_calls.specs.Ranks.{IsRanking, AreReturning, IsRankOrder, IsFalling}
 use Rattle.lz_calls.specs.Reaching.{Among, IsReach}
 use Rattle.lz_calls.specs.Facts.{AreStarts, IsRecursionFree, IsOrderOf}
-use Rattle.lz_calls.proofs.ReachingLemmas.{calls_within, among_contains, among_last, among_push}
+use Rattle.lz_calls.proofs.ReachingLemmas.{calls_within, among_contains, among_last, among_either, among_push}
 use Rattle.lz_calls.proofs.RanksLemmas.{same_rank, default}
 use Rattle.lz_calls.proofs.HeightsLemmas.{sees_all, statement_agrees, calls_of_body, height_fixed, lower}
 
@@ -86,12 +86,6 @@ returning_holds graph ranks rows r are f g c =
 
 pub starts_begin : (functions : List ScopedDefinition) → AreStarts functions 0 []
 starts_begin functions = record { sound = λ s a. absurd a; complete = λ s low is. absurd (omega arith) }
-
-among_either : (xs : List ℕ) (x y : ℕ) → Among (xs ++ x ∷ []) y → Among xs y ⊎ (x ≡ y)
-among_either [] x y (inl e) = inr e
-among_either [] x y (inr h) = elim h [ ]
-among_either (z ∷ xs) x y (inl e) = inl (inl e)
-among_either (z ∷ xs) x y (inr h) = elim (among_either xs x y h) [ inl a ↦ inl (inr a) | inr b ↦ inr b ]
 
 abbrev start_in : Option ScopedDefinition → Bool
 start_in None = false

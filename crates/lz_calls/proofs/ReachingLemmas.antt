@@ -40,11 +40,11 @@ pub among_last : (xs : List ℕ) (x : ℕ) → Among (xs ++ x ∷ []) x
 among_last [] x = inl refl
 among_last (z ∷ xs) x = inr (among_last xs x)
 
-among_popped : (xs : List ℕ) (x y : ℕ) → Among (xs ++ x ∷ []) y → Among xs y ⊎ (y ≡ x)
-among_popped [] x y (inl e) = inr (sym e)
-among_popped [] x y (inr h) = elim h [ ]
-among_popped (z ∷ xs) x y (inl e) = inl (inl e)
-among_popped (z ∷ xs) x y (inr h) = elim (among_popped xs x y h) [ inl a ↦ inl (inr a) | inr b ↦ inr b ]
+pub among_either : (xs : List ℕ) (x y : ℕ) → Among (xs ++ x ∷ []) y → Among xs y ⊎ (x ≡ y)
+among_either [] x y (inl e) = inr e
+among_either [] x y (inr h) = elim h [ ]
+among_either (z ∷ xs) x y (inl e) = inl (inl e)
+among_either (z ∷ xs) x y (inr h) = elim (among_either xs x y h) [ inl a ↦ inl (inr a) | inr b ↦ inr b ]
 
 module _ (graph : List (List ℕ)) (starts : List ℕ) where
   -- one more call
@@ -98,7 +98,7 @@ module _ (graph : List (List ℕ)) (starts : List ℕ) where
     closed = λ a g m c low.
         elim (h.closed a g m c low) [
           | inl x ↦ inl x
-          | inr y ↦ elim (among_popped work f a y) [ inl z ↦ inr (inl z) | inr e ↦ inr (inr (e, from g (subst (λ (x : ℕ). Calls graph x g) e c))) ]
+          | inr y ↦ elim (among_either work f a y) [ inl z ↦ inr (inl z) | inr e ↦ inr (inr (sym e, from g (subst (λ (x : ℕ). Calls graph x g) (sym e) c))) ]
         ];
     begun = λ s b low. elim (h.begun s b low) [ inl x ↦ x | inr y ↦ absurd y ];
     there = h.working f (among_last work f);
@@ -209,9 +209,9 @@ marks_set marks work f below unmarked = record {
   only = λ g h. elim (set_only marks f g h) [ inl a ↦ inl a | inr e ↦ inr (e, subst (λ (x : ℕ). Among (work ++ f ∷ []) x) (sym e) (among_last work f)) ];
   waits = λ g h. among_push work f g h;
   adds = λ g h.
-      elim (among_popped work f g h) [
+      elim (among_either work f g h) [
         | inl a ↦ inl a
-        | inr e ↦ inr (e, subst (λ (x : ℕ). Marked (slice_set marks f true) x) (sym e) (set_is marks f below))
+        | inr e ↦ inr (sym e, subst (λ (x : ℕ). Marked (slice_set marks f true) x) e (set_is marks f below))
       ];
   less = (let a = open_set marks f below unmarked in let b = length_push work f in omega arith);
   long = set_long marks f;
