@@ -1,5 +1,6 @@
 -- Two runs that follow one schedule are the same, Loc left out.
 use Rattle.std.proofs.Common.{◌≡◌, ◌≢◌, ℕ, zero, suc, ◌+◌, ◌<◌, ◌≤◌, ◌⊎◌, inl, inr, Bool, true, false, ◌&&◌, ◌||◌, eqb, ltb, not, cond, List, [], ◌∷◌, ◌++◌, length, slice_index, Option, Some, None, refl, sym, ◌∙◌, ap, subst, append_assoc, arith}
+use Rattle.std.proofs.Math.Seq.{append_snoc}
 use Rattle.std.proofs.lemmas.Bool.{eqb-true}
 use Rattle.std.proofs.lemmas.Bool.Decides.{nat_tests}
 use Rattle.std.proofs.lemmas.List.{append-nil}
@@ -329,9 +330,6 @@ unfolding IsSeenAll
 all_seen [] = tt
 all_seen (e ∷ run) = seen_step e (events_without_loc run) (is_loc e.action) refl (all_seen run)
 
-pub one_more_event : (zs : List Event) (e : Event) (rest : List Event) → zs ++ e ∷ rest ≡ (zs ++ e ∷ []) ++ rest
-one_more_event zs e rest = sym (append_assoc zs (e ∷ []) rest)
-
 behind_goes : (zs : List Event) (e : Event) (s s1 begins : State) → course zs begins ≡ going s → act s e.thread e.action ≡ went s1 → course (zs ++ e ∷ []) begins ≡ going s1
 behind_goes zs e s s1 begins on a = course-append_going zs (e ∷ []) begins s on ∙ rw a refl
 
@@ -347,8 +345,8 @@ same_rest : (process : Process) (zs xs ys : List Event) (e : Event) (s : State) 
     → IsRun process (zs ++ e ∷ xs) → IsRun process (zs ++ e ∷ ys)
     → ((s1 : State) → course (zs ++ e ∷ []) process.begins ≡ going s1 → IsRun process ((zs ++ e ∷ []) ++ xs) → IsRun process ((zs ++ e ∷ []) ++ ys) → xs ≡ ys) → xs ≡ ys
 same_rest process zs xs ys e s (went s1) a on is other ih =
-    ih s1 (behind_goes zs e s s1 process.begins on a) (subst (λ (run : List Event). IsRun process run) (one_more_event zs e xs) is)
-    (subst (λ (run : List Event). IsRun process run) (one_more_event zs e ys) other)
+    ih s1 (behind_goes zs e s s1 process.begins on a) (subst (λ (run : List Event). IsRun process run) (sym (append_snoc zs e xs)) is)
+    (subst (λ (run : List Event). IsRun process run) (sym (append_snoc zs e ys)) other)
 same_rest process zs xs ys e s blocked a on is other ih = absurd (goes_here e xs s (on_from process zs (e ∷ xs) s on is) a)
 same_rest process zs xs ys e s (broke kind) a on is other ih =
     nothing_more e xs s kind a (on_from process zs (e ∷ xs) s on is) ∙ sym (nothing_more e ys s kind a (on_from process zs (e ∷ ys) s on other))

@@ -1,5 +1,6 @@
 -- What a call makes of its stage is what its code may do from there, Loc left out.
-use Rattle.std.proofs.Common.{◌≡◌, ℕ, zero, suc, ◌+◌, Bool, true, false, List, [], ◌∷◌, ◌++◌, length, slice_index, Option, Some, None, refl, sym, ◌∙◌, ap, subst, append_assoc}
+use Rattle.std.proofs.Common.{◌≡◌, ℕ, zero, suc, ◌+◌, Bool, true, false, List, [], ◌∷◌, ◌++◌, length, slice_index, Option, Some, None, refl, sym, ◌∙◌, ap, subst}
+use Rattle.std.proofs.Math.Seq.{append_snoc}
 use Rattle.std.proofs.lemmas.List.{append-nil}
 use Rattle.lz_base.specs.declared.word.BreakKind.{BreakKind}
 use Rattle.lz_base.specs.declared.word.BreakKind.TheVariants as kinds
@@ -53,9 +54,6 @@ locs_quiet line [] rest s = alike_value
 locs_quiet line (x ∷ xs) rest s = alike_alike alike_assoc (alike_alike (alike_loc line stays zero _ s) (locs_quiet line xs rest s))
 
 -- one more argument
-one_more : (values : List ℕ) (v : ℕ) (vs : List ℕ) → values ++ v ∷ vs ≡ (values ++ v ∷ []) ++ vs
-one_more values v vs = sym (append_assoc values (v ∷ []) vs)
-
 longer : (values : List ℕ) (v : ℕ) → suc (length values) ≡ length (values ++ v ∷ [])
 longer [] v = refl
 longer (x ∷ xs) v = ap suc (longer xs v)
@@ -83,7 +81,7 @@ module _ (calls : Calls) (c : FrontCalls calls) (e : ScopedExpression) where
       later v =
           let one : (arguments_trace calls (rest_from (arguments_of e) (suc (length values))) and_then λ vs. calls_with calls line function (arguments_of e) (values ++ v ∷ vs))
           ≡ calling_trace calls (function_called line function) (arguments_of e) (values ++ v ∷ []) =
-          λ i. arguments_trace calls (rest_from (arguments_of e) (longer values v i)) and_then λ vs. calls_with calls line function (arguments_of e) (one_more values v vs i) in
+          λ i. arguments_trace calls (rest_from (arguments_of e) (longer values v i)) and_then λ vs. calls_with calls line function (arguments_of e) (sym (append_snoc values v vs) i) in
           one ∙ ap (λ (d : Called). calling_trace calls d (arguments_of e) (values ++ v ∷ [])) (sym is)
 
   pub callings : (d : Called) → called e ≡ d → (values : List ℕ) (s : Locals) → Alike (calling_trace calls d (arguments_of e) values) s (moved calls e (calling_move d (arguments_of e) values)) s
@@ -116,7 +114,7 @@ module _ (calls : Calls) (c : FrontCalls calls) (e : ScopedExpression) where
       later i =
           let one : (objects_trace calls (rest_from (arguments_of e) (suc k)) and_then λ os. arguing_from calls line name (arguments_of e) (objects ++ (first_of meant + i) ∷ os) [])
           ≡ passing_trace calls (known_called line name) (arguments_of e) (objects ++ (first_of meant + i) ∷ []) (suc k) =
-          λ j. objects_trace calls (rest_from (arguments_of e) (suc k)) and_then λ os. arguing_from calls line name (arguments_of e) (one_more objects (first_of meant + i) os j) [] in
+          λ j. objects_trace calls (rest_from (arguments_of e) (suc k)) and_then λ os. arguing_from calls line name (arguments_of e) (sym (append_snoc objects (first_of meant + i) os) j) [] in
           one ∙ ap (λ (d : Called). passing_trace calls d (arguments_of e) (objects ++ (first_of meant + i) ∷ []) (suc k)) (sym is)
 
   -- behind its index
@@ -271,7 +269,7 @@ module _ (calls : Calls) (c : FrontCalls calls) (e : ScopedExpression) where
           let d = known_called line name in
           let one : (values_trace calls (rest_from (arguments_of e) (suc k)) and_then λ vs. known_trace line name objects (values ++ v ∷ vs))
           ≡ arguing_trace calls (known_called line name) (arguments_of e) objects (values ++ v ∷ []) (suc k) =
-          λ i. values_trace calls (rest_from (arguments_of e) (suc k)) and_then λ vs. known_trace line name objects (one_more values v vs i) in
+          λ i. values_trace calls (rest_from (arguments_of e) (suc k)) and_then λ vs. known_trace line name objects (sym (append_snoc values v vs) i) in
           let two = ap (λ (o : Option ScopedExpression). argued_trace calls d (arguments_of e) o objects values k v) (sym at) in
           one ∙ (two ∙ ap (λ (x : Called). argued_trace calls x (arguments_of e) (argument_at (arguments_of e) k) objects values k v) (sym is))
 
