@@ -15,16 +15,16 @@ use Rattle.lz_calls.specs.Ranks.{IsRanking, IsRankOrder}
 
 -- What is seen of heights that tells a height from what is seen of the parts: all, or where they stop.
 pub record Sees (h : ℕ → ℕ) : Type 0 where
-  pub top : (a b c d : ℕ) → h a ≡ h c → h b ≡ h d → h (max a b) ≡ h (max c d)
-  pub more : (a b : ℕ) → h a ≡ h b → h (suc a) ≡ h (suc b)
+  pub top : {a b c d : ℕ} → h a ≡ h c → h b ≡ h d → h (max a b) ≡ h (max c d)
+  pub more : {a b : ℕ} → h a ≡ h b → h (suc a) ≡ h (suc b)
 
 -- all of them
 pub sees_all : Sees (λ n. n)
-sees_all = record { top = λ a b c d left right. omega arith; more = λ a b e. ap suc e }
+sees_all = record { top = λ {a} {b} {c} {d} left right. omega arith; more = λ e. ap suc e }
 
 -- where they stop at the greatest
 pub sees_capped : Sees capped
-sees_capped = record { top = λ a b c d left right. omega arith; more = λ a b e. omega arith }
+sees_capped = record { top = λ {a} {b} {c} {d} left right. omega arith; more = λ {a} {b} e. omega arith }
 
 called_agrees : {h : ℕ → ℕ} {r s : ℕ → ℕ} → (callee : Object) → Agree h r s (called callee) → h (height_called r callee) ≡ h (height_called s callee)
 called_agrees (Local first len kind) a = refl
@@ -42,19 +42,19 @@ mutual
   expression_agrees k (constant line value form kind) a = refl
   expression_agrees k (null line kind) a = refl
   expression_agrees k (text line kind) a = refl
-  expression_agrees k (object (lvalue at meant index checked) kind) a = k.more _ _ (index_agrees k index a)
-  expression_agrees k (address line (lvalue at meant index checked) kind) a = k.more _ _ (index_agrees k index a)
-  expression_agrees k (paren line e kind) a = k.more _ _ (expression_agrees k e a)
-  expression_agrees k (unary line op e kind) a = k.more _ _ (expression_agrees k e a)
-  expression_agrees k (cast line to e kind) a = k.more _ _ (expression_agrees k e a)
-  expression_agrees k (binary line op l q kind) a = k.more _ _ (k.top _ _ _ _ (expression_agrees k l (agree_left _ _ a)) (expression_agrees k q (agree_right _ _ a)))
+  expression_agrees k (object (lvalue at meant index checked) kind) a = k.more (index_agrees k index a)
+  expression_agrees k (address line (lvalue at meant index checked) kind) a = k.more (index_agrees k index a)
+  expression_agrees k (paren line e kind) a = k.more (expression_agrees k e a)
+  expression_agrees k (unary line op e kind) a = k.more (expression_agrees k e a)
+  expression_agrees k (cast line to e kind) a = k.more (expression_agrees k e a)
+  expression_agrees k (binary line op l q kind) a = k.more (k.top (expression_agrees k l (agree_left _ _ a)) (expression_agrees k q (agree_right _ _ a)))
   expression_agrees k (choose line l m q kind) a =
-      k.more _ _ (k.top _ _ _ _ (expression_agrees k l (agree_left _ _ a)) (k.top _ _ _ _ (expression_agrees k m (agree_left _ _ (agree_right _ _ a))) (expression_agrees k q (agree_right _ _ (agree_right _ _ a)))))
+      k.more (k.top (expression_agrees k l (agree_left _ _ a)) (k.top (expression_agrees k m (agree_left _ _ (agree_right _ _ a))) (expression_agrees k q (agree_right _ _ (agree_right _ _ a)))))
   expression_agrees k (assign line op (lvalue at meant index checked) e kind) a =
-      k.more _ _ (k.top _ _ _ _ (index_agrees k index (agree_left _ _ a)) (expression_agrees k e (agree_right _ _ a)))
-  expression_agrees k (step line (lvalue at meant index checked) up before kind) a = k.more _ _ (index_agrees k index a)
+      k.more (k.top (index_agrees k index (agree_left _ _ a)) (expression_agrees k e (agree_right _ _ a)))
+  expression_agrees k (step line (lvalue at meant index checked) up before kind) a = k.more (index_agrees k index a)
   expression_agrees k (call line callee args kind) a =
-      k.more _ _ (k.top _ _ _ _ (expressions_agree k args (agree_left _ _ a)) (called_agrees callee (agree_right _ _ a)))
+      k.more (k.top (expressions_agree k args (agree_left _ _ a)) (called_agrees callee (agree_right _ _ a)))
 
   index_agrees : {h : ℕ → ℕ} {r s : ℕ → ℕ} → Sees h → (i : ScopedIndex) → Agree h r s (index_calls i) → h (height_in_index r i) ≡ h (height_in_index s i)
   index_agrees k whole a = refl
@@ -62,7 +62,7 @@ mutual
 
   expressions_agree : {h : ℕ → ℕ} {r s : ℕ → ℕ} → Sees h → (es : ScopedExpressions) → Agree h r s (expressions_calls es) → h (height_in_all r es) ≡ h (height_in_all s es)
   expressions_agree k none a = refl
-  expressions_agree k (and e rest) a = k.top _ _ _ _ (expression_agrees k e (agree_left _ _ a)) (expressions_agree k rest (agree_right _ _ a))
+  expressions_agree k (and e rest) a = k.top (expression_agrees k e (agree_left _ _ a)) (expressions_agree k rest (agree_right _ _ a))
 
 optional_agrees : {h : ℕ → ℕ} {r s : ℕ → ℕ} → Sees h → (e : Option ScopedExpression) → Agree h r s (optional_calls e) → h (height_in_optional r e) ≡ h (height_in_optional s e)
 optional_agrees k None a = refl
@@ -71,12 +71,12 @@ optional_agrees k (Some e) a = expression_agrees k e a
 initializer_agrees : {h : ℕ → ℕ} {r s : ℕ → ℕ} → Sees h → (i : ScopedInitializer) → Agree h r s (initializer_calls i) → h (height_in_initializer r i) ≡ h (height_in_initializer s i)
 initializer_agrees k nothing a = refl
 initializer_agrees k (single e) a = expression_agrees k e a
-initializer_agrees k (listed values) a = k.more _ _ (expressions_agree k values a)
+initializer_agrees k (listed values) a = k.more (expressions_agree k values a)
 
 declarators_agree : {h : ℕ → ℕ} {r s : ℕ → ℕ} → Sees h → (ds : List ScopedInitDeclarator) → Agree h r s (declarators_calls ds) → h (height_in_declarators r ds) ≡ h (height_in_declarators s ds)
 declarators_agree k [] a = refl
 declarators_agree k (d ∷ rest) a =
-    k.top _ _ _ _ (k.top _ _ _ _ (optional_agrees k d.length (agree_left _ _ a)) (initializer_agrees k d.first (agree_left _ _ (agree_right _ _ a)))) (declarators_agree k rest (agree_right _ _ (agree_right _ _ a)))
+    k.top (k.top (optional_agrees k d.length (agree_left _ _ a)) (initializer_agrees k d.first (agree_left _ _ (agree_right _ _ a)))) (declarators_agree k rest (agree_right _ _ (agree_right _ _ a)))
 
 mutual
   unfolding height_of height_of_branch height_of_all
@@ -84,22 +84,22 @@ mutual
   -- the height of a statement
   pub statement_agrees : {h : ℕ → ℕ} {r s : ℕ → ℕ} → Sees h → (c : ScopedStatement) → Agree h r s (statement_calls c) → h (height_of r c) ≡ h (height_of s c)
   statement_agrees k empty a = refl
-  statement_agrees k (eval e) a = k.more _ _ (expression_agrees k e a)
-  statement_agrees k (block parts) a = k.more _ _ (statements_agree k parts a)
-  statement_agrees k (declare of) a = k.more _ _ (declarators_agree k of.declarators a)
+  statement_agrees k (eval e) a = k.more (expression_agrees k e a)
+  statement_agrees k (block parts) a = k.more (statements_agree k parts a)
+  statement_agrees k (declare of) a = k.more (declarators_agree k of.declarators a)
   statement_agrees k (when line test first second) a =
-      k.more _ _ (k.top _ _ _ _ (expression_agrees k test (agree_left _ _ a)) (k.top _ _ _ _ (statement_agrees k first (agree_left _ _ (agree_right _ _ a))) (branch_agrees k second (agree_right _ _ (agree_right _ _ a)))))
+      k.more (k.top (expression_agrees k test (agree_left _ _ a)) (k.top (statement_agrees k first (agree_left _ _ (agree_right _ _ a))) (branch_agrees k second (agree_right _ _ (agree_right _ _ a)))))
   statement_agrees k (while line test body) a =
-      k.more _ _ (k.top _ _ _ _ (expression_agrees k test (agree_left _ _ a)) (statement_agrees k body (agree_right _ _ a)))
+      k.more (k.top (expression_agrees k test (agree_left _ _ a)) (statement_agrees k body (agree_right _ _ a)))
   statement_agrees k (do_while line body test) a =
-      k.more _ _ (k.top _ _ _ _ (statement_agrees k body (agree_left _ _ a)) (expression_agrees k test (agree_right _ _ a)))
+      k.more (k.top (statement_agrees k body (agree_left _ _ a)) (expression_agrees k test (agree_right _ _ a)))
   statement_agrees k (for line first test change body) a =
       let turn = agree_right (optional_calls test) (optional_calls change ++ statement_calls body) (agree_right (statement_calls first) _ a) in
-      k.more _ _ (k.top _ _ _ _ (statement_agrees k first (agree_left _ _ a)) (k.top _ _ _ _ (optional_agrees k test (agree_left _ _ (agree_right _ _ a))) (k.top _ _ _ _ (optional_agrees k change (agree_left (optional_calls change) (statement_calls body) turn)) (statement_agrees k body (agree_right (optional_calls change) (statement_calls body) turn)))))
+      k.more (k.top (statement_agrees k first (agree_left _ _ a)) (k.top (optional_agrees k test (agree_left _ _ (agree_right _ _ a))) (k.top (optional_agrees k change (agree_left (optional_calls change) (statement_calls body) turn)) (statement_agrees k body (agree_right (optional_calls change) (statement_calls body) turn)))))
   statement_agrees k (break line) a = refl
   statement_agrees k (continue line) a = refl
-  statement_agrees k (return line e) a = k.more _ _ (optional_agrees k e a)
-  statement_agrees k (label name of) a = k.more _ _ (statement_agrees k of a)
+  statement_agrees k (return line e) a = k.more (optional_agrees k e a)
+  statement_agrees k (label name of) a = k.more (statement_agrees k of a)
 
   branch_agrees : {h : ℕ → ℕ} {r s : ℕ → ℕ} → Sees h → (b : ScopedBranch) → Agree h r s (branch_calls b) → h (height_of_branch r b) ≡ h (height_of_branch s b)
   branch_agrees k absent a = refl
@@ -107,7 +107,7 @@ mutual
 
   statements_agree : {h : ℕ → ℕ} {r s : ℕ → ℕ} → Sees h → (cs : ScopedStatements) → Agree h r s (statements_calls cs) → h (height_of_all r cs) ≡ h (height_of_all s cs)
   statements_agree k nil a = refl
-  statements_agree k (cons c rest) a = k.top _ _ _ _ (statement_agrees k c (agree_left _ _ a)) (statements_agree k rest (agree_right _ _ a))
+  statements_agree k (cons c rest) a = k.top (statement_agrees k c (agree_left _ _ a)) (statements_agree k rest (agree_right _ _ a))
 
 -- ---- by ranks
 
