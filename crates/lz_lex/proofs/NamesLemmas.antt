@@ -242,9 +242,9 @@ define-step at name b es es' same more =
     ∙ sym (pieced-define at name.now (option_map body b))
 
 -- what an `Ok` leaves, in another form
-pub on_ok : {A E : Type 0} (r : Result A E) (x y z : Cutting) → OnOk r (x ≡ y) → y ≡ z → OnOk r (x ≡ z)
-on_ok (Ok v) x y z h e = h ∙ e
-on_ok (Err v) x y z h e = tt
+pub on_ok : {A E : Type 0} (r : Result A E) (x : Cutting) {y z : Cutting} → OnOk r (x ≡ y) → y ≡ z → OnOk r (x ≡ z)
+on_ok (Ok v) x h e = h ∙ e
+on_ok (Err v) x h e = tt
 
 -- the pieces without tokens
 pub pieced-white : (at : Cutting) (byte : ℕ) → pieced at (white byte) ≡ at

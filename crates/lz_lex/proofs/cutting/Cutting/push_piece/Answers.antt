@@ -23,24 +23,24 @@ returns-in-White c =
 pub returns-in-Word : goal.returns-in-Word
 returns-in-Word c =
     let at = cutting c.args.self.now in
-    on_ok c.push_word.result _ _ _ c.push_word.ensures (sym (ap (λ p. pieced at (piece p)) c.in-Word.is ∙ pieced-word at c.in-Word.letters.now))
+    on_ok c.push_word.result _ c.push_word.ensures (sym (ap (λ p. pieced at (piece p)) c.in-Word.is ∙ pieced-word at c.in-Word.letters.now))
 
 pub returns-in-Integer : goal.returns-in-Integer
 returns-in-Integer c =
     let at = cutting c.args.self.now in
-    on_ok c.push_constant.result _ _ _ c.push_constant.ensures (sym (ap (λ p. pieced at (piece p)) c.in-Integer.is ∙ pieced-one at _ (constant_kind (constant c.in-Integer.constant)) refl refl refl))
+    on_ok c.push_constant.result _ c.push_constant.ensures (sym (ap (λ p. pieced at (piece p)) c.in-Integer.is ∙ pieced-one at _ (constant_kind (constant c.in-Integer.constant)) refl refl refl))
 
 pub returns-in-Character : goal.returns-in-Character
 returns-in-Character c =
     let at = cutting c.args.self.now in
-    on_ok c.push_constant-in-Character.result _ _ _ c.push_constant-in-Character.ensures (sym (ap (λ p. pieced at (piece p)) c.in-Character.is ∙ pieced-one at _ (constant_kind (constant c.in-Character.constant)) refl refl refl))
+    on_ok c.push_constant-in-Character.result _ c.push_constant-in-Character.ensures (sym (ap (λ p. pieced at (piece p)) c.in-Character.is ∙ pieced-one at _ (constant_kind (constant c.in-Character.constant)) refl refl refl))
 
 pub returns-in-Text : goal.returns-in-Text
 returns-in-Text c =
     let at = cutting c.args.self.now in
-    on_ok c.push.result _ _ _ c.push.ensures (sym (ap (λ p. pieced at (piece p)) c.in-Text.is ∙ pieced-one at _ kinds.Text refl refl refl))
+    on_ok c.push.result _ c.push.ensures (sym (ap (λ p. pieced at (piece p)) c.in-Text.is ∙ pieced-one at _ kinds.Text refl refl refl))
 
 pub returns-in-Mark : goal.returns-in-Mark
 returns-in-Mark c =
     let at = cutting c.args.self.now in
-    on_ok c.push_mark.result _ _ _ c.push_mark.ensures (sym (ap (λ p. pieced at (piece p)) c.in-Mark.is ∙ pieced-one at _ (kinds.Punct c.in-Mark.punct) refl refl refl))
+    on_ok c.push_mark.result _ c.push_mark.ensures (sym (ap (λ p. pieced at (piece p)) c.in-Mark.is ∙ pieced-one at _ (kinds.Punct c.in-Mark.punct) refl refl refl))
