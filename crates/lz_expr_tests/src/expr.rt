@@ -185,11 +185,20 @@ fn expressions(rt: HostRuntime) -> Result<(), Fail> {
 
 #[test]
 fn choices_hold_no_assignment(rt: HostRuntime) -> Result<(), Fail> {
-    assert_eq!(rt; answer(rt.alloc(), "a=1", 200, false)?.as_str(), "(o) 1");
-    assert_eq!(rt;
-        answer(rt.alloc(), "a?b=1:c", 200, false)?.as_str(),
-        "((o)?(o=(1)):(o)) 7"
-    );
+    for (letters, wanted, why) in [
+        ("a=1", "(o) 1", "it ends before an assignment"),
+        (
+            "a?b=1:c",
+            "((o)?(o=(1)):(o)) 7",
+            "but between its marks one stands",
+        ),
+    ] {
+        assert_eq!(rt;
+            answer(rt.alloc(), letters, 200, false)?.as_str(),
+            wanted,
+            "{letters}: {why}"
+        );
+    }
     Ok(())
 }
 

@@ -446,15 +446,79 @@ fn end_of(alloc: Global, letters: &[u8]) -> Result<String, Fail> {
 #[test]
 fn heights(rt: HostRuntime) -> Result<(), Fail> {
     let alloc = rt.alloc();
-    for (front, middle, back, times, ends, refused) in [
-        ("{", "", "}", 200usize, "to 400", "no 200"),
-        ("{", ";", "}", 199, "to 399", "no 200"),
-        ("I(a)", ";", "", 199, "to 797", "no 796"),
-        ("I(a);E", ";", "", 199, "to 1195", "no 1194"),
-        ("W(a)", ";", "", 199, "to 797", "no 796"),
-        ("D", ";", "W(a);", 199, "to 1195", "no 199"),
-        ("F(;;)", ";", "", 199, "to 996", "no 995"),
-        ("a:", ";", "", 199, "to 399", "no 398"),
+    for (front, middle, back, times, ends, refused, why) in [
+        (
+            "{",
+            "",
+            "}",
+            200usize,
+            "to 400",
+            "no 200",
+            "a block that holds nothing is one high",
+        ),
+        (
+            "{",
+            ";",
+            "}",
+            199,
+            "to 399",
+            "no 200",
+            "a block is higher than its statement",
+        ),
+        (
+            "I(a)",
+            ";",
+            "",
+            199,
+            "to 797",
+            "no 796",
+            "an if is higher than its first branch",
+        ),
+        (
+            "I(a);E",
+            ";",
+            "",
+            199,
+            "to 1195",
+            "no 1194",
+            "an if is higher than its second branch",
+        ),
+        (
+            "W(a)",
+            ";",
+            "",
+            199,
+            "to 797",
+            "no 796",
+            "a while is higher than its body",
+        ),
+        (
+            "D",
+            ";",
+            "W(a);",
+            199,
+            "to 1195",
+            "no 199",
+            "a do is higher than its body",
+        ),
+        (
+            "F(;;)",
+            ";",
+            "",
+            199,
+            "to 996",
+            "no 995",
+            "a for is higher than its body",
+        ),
+        (
+            "a:",
+            ";",
+            "",
+            199,
+            "to 399",
+            "no 398",
+            "a label is higher than its statement",
+        ),
     ] {
         for (times, wanted) in [(times, ends), (times.saturating_add(1), refused)] {
             let letters = nested(
@@ -468,7 +532,7 @@ fn heights(rt: HostRuntime) -> Result<(), Fail> {
             assert_eq!(rt;
                 answer.as_str(),
                 wanted,
-                "{front}{middle}{back} {times} times"
+                "{front}{middle}{back} {times} times: {why}"
             );
         }
     }

@@ -125,8 +125,12 @@ fn a_check_after_a_write_needs_two_rounds(rt: HostRuntime) -> Result<(), Fail> {
     ];
     for (rounds, statements, ones, fails, why) in table {
         let straight = rounds_of(rt.alloc(), &flat, rounds).ok().ok_or("memory")?;
-        assert_eq!(rt; straight.list.items().len(), statements);
-        assert_eq!(rt; straight.first.items().len(), 5);
+        assert_eq!(rt;
+            straight.list.items().len(),
+            statements,
+            "statements: {why}"
+        );
+        assert_eq!(rt; straight.first.items().len(), 5, "words: {why}");
         let answer = fails_with(rt.alloc(), &straight, ones)
             .ok()
             .ok_or("memory")?;

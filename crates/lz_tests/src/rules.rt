@@ -666,50 +666,72 @@ fn arrays(alloc: Global, count: u32, behind: &str) -> Result<Bytes, Memory> {
 #[test]
 fn rules_of_large_files(rt: HostRuntime) -> Result<(), Fail> {
     let alloc = rt.alloc();
-    let towers: [(u32, &str, &str, u8); 4] = [
+    let towers: [(u32, &str, &str, u8, &str); 4] = [
         (
             334,
             "void g(int a){ f333(); } int main(void) { }",
             "SOURCE line 335 rule 26\n",
             4,
+            "334 functions, and one with a parameter that calls the last",
         ),
         (
             334,
             "void g(int a,\nint a){ f333(); } int main(void) { }",
             "SOURCE line 335 rule 26\n",
             4,
+            "334 functions, and one that is told before its parameters",
         ),
-        (334, "int main(void) { }", SUCCESS, 0),
-        (335, "int main(void){}", "SOURCE line 335 rule 26\n", 4),
+        (
+            334,
+            "int main(void) { }",
+            SUCCESS,
+            0,
+            "334 functions, the last of which is as high as may be",
+        ),
+        (
+            335,
+            "int main(void){}",
+            "SOURCE line 335 rule 26\n",
+            4,
+            "335 functions, the last of which is too high",
+        ),
     ];
-    for (functions, behind, report, status) in towers {
+    for (functions, behind, report, status, reason) in towers {
         let text = tower(alloc, functions, behind).ok().ok_or("memory")?;
         let told = call_with(alloc, &["a.c"], text, AMPLE, Calls::new(alloc))
             .ok()
             .ok_or("memory")?;
-        compare(&rt, &told, report, status, behind);
+        compare(&rt, &told, report, status, reason);
     }
-    let rows: [(u32, &str, &str, u8); 3] = [
+    let rows: [(u32, &str, &str, u8, &str); 3] = [
         (
             16,
             "int\nx; int main(void) { }",
             "SOURCE line 2 rule 23\n",
             4,
+            "one element more than 16 arrays have, at its name",
         ),
-        (16, "int main(void) { int x; }", HAS_CHOICE, 12),
+        (
+            16,
+            "int main(void) { int x; }",
+            HAS_CHOICE,
+            12,
+            "16 arrays, and an object that is not at file scope",
+        ),
         (
             16,
             "int\nx = y; int main(void) { }",
             "SOURCE line 2 rule 9\n",
             4,
+            "of two rules that the declarator of one element more breaks, the first",
         ),
     ];
-    for (count, behind, report, status) in rows {
+    for (count, behind, report, status, reason) in rows {
         let text = arrays(alloc, count, behind).ok().ok_or("memory")?;
         let told = call_with(alloc, &["a.c"], text, AMPLE, Calls::new(alloc))
             .ok()
             .ok_or("memory")?;
-        compare(&rt, &told, report, status, behind);
+        compare(&rt, &told, report, status, reason);
     }
     let text = doubling(alloc, 61).ok().ok_or("memory")?;
     let told = call_with(alloc, &["a.c"], text, AMPLE, Calls::new(alloc))
