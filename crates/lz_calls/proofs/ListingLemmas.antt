@@ -58,7 +58,7 @@ so_far_turn f xs start at now new x lt is so_far made =
     }
 
 -- at the end it is the whole
-pub so_far_end : {A B : Type 0} (f : A → List B) (xs : List A) (start : List B) (at : ℕ) (now : List B) → at ≡ length xs → IsSoFar f xs start at now → now ≡ start ++ joined f xs
-so_far_end f xs start at now end so_far =
+pub so_far_end : {A B : Type 0} {f : A → List B} {xs : List A} {start : List B} {at : ℕ} {now : List B} → at ≡ length xs → IsSoFar f xs start at now → now ≡ start ++ joined f xs
+so_far_end {f} {xs} {at} {now} end so_far =
     let gone : drop at xs ≡ [] = rw end (drop-length xs) in
     sym (append-nil now) ∙ ap (λ ys. now ++ joined f ys) (sym gone) ∙ so_far.whole

@@ -50,8 +50,8 @@ top_turn f xs at top new item x lt is so_far one made =
     record { whole = omega arith; low = omega arith }
 
 -- at the end it is the highest of all
-pub top_end : {A : Type 0} (f : A → ℕ) (xs : List A) (at top : ℕ) → at ≡ length xs → IsTopSoFar f xs at top → top ≡ capped (highest f xs)
-top_end {A = A} f xs at top end so_far =
+pub top_end : {A : Type 0} {f : A → ℕ} {xs : List A} {at top : ℕ} → at ≡ length xs → IsTopSoFar f xs at top → top ≡ capped (highest f xs)
+top_end {A = A} {f} {xs} {at} {top} end so_far =
     let gone : drop at xs ≡ [] = rw end (drop-length xs) in
     let before : capped (max top (highest f (drop at xs))) ≡ capped (highest f xs) = so_far.whole in
     let none : highest f (drop at xs) ≡ 0 = ap (highest f) gone in

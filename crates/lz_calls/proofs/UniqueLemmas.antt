@@ -25,7 +25,7 @@ no_calls = record { less = λ g a. absurd a }
 higher : {c : ℕ → ℕ} {xs : List ℕ} {n : ℕ} → IsAbove c xs n → IsAbove c xs (suc n)
 higher above = record { less = λ g a. let less = above.less g a in omega arith }
 
-among_parts : (xs ys : List ℕ) (g : ℕ) → Among (xs ++ ys) g → Among xs g ⊎ Among ys g
+pub among_parts : (xs ys : List ℕ) (g : ℕ) → Among (xs ++ ys) g → Among xs g ⊎ Among ys g
 among_parts [] ys g a = inr a
 among_parts (x ∷ xs) ys g (inl e) = inl (inl e)
 among_parts (x ∷ xs) ys g (inr a) = elim (among_parts xs ys g a) [ inl left ↦ inl (inr left) | inr right ↦ inr right ]

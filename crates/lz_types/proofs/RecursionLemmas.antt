@@ -34,6 +34,7 @@ use Rattle.lz_calls.specs.Calls.{Calls, graph_of}
 use Rattle.lz_calls.specs.Facts.{IsRecursionFree}
 use Rattle.lz_calls.specs.Reaching.{Among}
 use Rattle.lz_calls.proofs.ReachingLemmas.{calls_within, contains_among}
+use Rattle.lz_calls.proofs.UniqueLemmas.{among_parts}
 use Rattle.lz_types.specs.Checking.{AreFaults}
 use Rattle.lz_types.specs.Faults.{at, node, target, faults, index_faults, all_faults, optional_faults, initializer_faults, declarators_faults, statement_faults, branch_faults, statements_faults, body_faults, external_faults, externals_faults, file_faults}
 use Rattle.lz_calls.proofs.FactsLemmas.{row_at}
@@ -55,20 +56,18 @@ pub record Leads (file : File) (f g : ℕ) : Type 0 where
   pub within : g < length file.functions
   pub ahead : returns_to file f g ≡ false
 
-Lead : File → ℕ → List ℕ → Type 0
-Lead file f [] = Unit {0}
-Lead file f (g ∷ rest) = Leads file f g × Lead file f rest
+-- So does each function in a list.
+pub record Lead (file : File) (f : ℕ) (calls : List ℕ) : Type 0 where
+  pub each : (g : ℕ) → Among calls g → Leads file f g
 
-both : (file : File) (f : ℕ) (xs ys : List ℕ) → Lead file f xs → Lead file f ys → Lead file f (xs ++ ys)
-unfolding Lead
-both file f [] ys a b = b
-both file f (x ∷ xs) ys a b = (a.0, both file f xs ys a.1 b)
+no_calls : {file : File} {f : ℕ} → Lead file f []
+no_calls = record { each = λ g a. absurd a }
 
-lead_among : (file : File) (f g : ℕ) (xs : List ℕ) → Lead file f xs → Among xs g → Leads file f g
-unfolding Lead
-lead_among file f g [] a h = elim h [ ]
-lead_among file f g (x ∷ xs) a (inl e) = subst (λ (y : ℕ). Leads file f y) e a.0
-lead_among file f g (x ∷ xs) a (inr h) = lead_among file f g xs a.1 h
+one_call : {file : File} {f g : ℕ} → Leads file f g → Lead file f (g ∷ [])
+one_call {file} {f} leads = record { each = λ h a. elim a [ inl e ↦ subst (λ (y : ℕ). Leads file f y) e leads | inr none_left ↦ absurd none_left ] }
+
+both : {file : File} {f : ℕ} {xs ys : List ℕ} → Lead file f xs → Lead file f ys → Lead file f (xs ++ ys)
+both {xs = xs} {ys = ys} left right = record { each = λ g a. elim (among_parts xs ys g a) [ inl l ↦ left.each g l | inr r ↦ right.each g r ] }
 
 -- ---- what a call means
 
@@ -106,15 +105,15 @@ meant_number None None (Some m) n is = is
 meant_number None (Some k) d n is = known_number k d n is
 
 lead_called : (file : File) (f : ℕ) (o : Option Object) → ((n : ℕ) → number o ≡ Some n → Leads file f n) → Lead file f (called (or_nothing o))
-unfolding Lead number
-lead_called file f None h = tt
-lead_called file f (Some (Routine n)) h = (h n refl, tt)
-lead_called file f (Some (Local first len kind)) h = tt
-lead_called file f (Some (Cell first len kind)) h = tt
-lead_called file f (Some (Mutex first len)) h = tt
-lead_called file f (Some (Cond first len)) h = tt
-lead_called file f (Some (Handle first len)) h = tt
-lead_called file f (Some (Known name)) h = tt
+unfolding number
+lead_called file f None h = no_calls
+lead_called file f (Some (Routine n)) h = one_call (h n refl)
+lead_called file f (Some (Local first len kind)) h = no_calls
+lead_called file f (Some (Cell first len kind)) h = no_calls
+lead_called file f (Some (Mutex first len)) h = no_calls
+lead_called file f (Some (Cond first len)) h = no_calls
+lead_called file f (Some (Handle first len)) h = no_calls
+lead_called file f (Some (Known name)) h = no_calls
 
 routine_of : (o : Option Object) (n : ℕ) → number o ≡ Some n → o ≡ Some (Routine n)
 unfolding number
@@ -181,91 +180,89 @@ module _ (unit : TranslationUnit) (facts : Facts) where
       })
 
   mutual
-    unfolding Lead faults scope
+    unfolding faults scope
 
     leads : (p : Place) (f : ℕ) → In p f → (want : Want) (e : Expression) → faults file p want e ≡ [] → Lead file f (expression_calls (scope (bare unit) p e))
-    leads p f i want (constant line value form) clear = tt
-    leads p f i want (null line) clear = tt
-    leads p f i want (text line) clear = tt
+    leads p f i want (constant line value form) clear = no_calls
+    leads p f i want (null line) clear = no_calls
+    leads p f i want (text line) clear = no_calls
     leads p f i want (object line name index) clear = index_leads p f i index (back _ _ (back _ _ clear))
     leads p f i want (address line at name index) clear = index_leads p f i index (back _ _ (back _ _ clear))
     leads p f i want (paren line inner) clear = leads p f i _ inner (back _ _ clear)
     leads p f i want (unary line op of) clear = leads p f i _ of (back _ _ clear)
     leads p f i want (cast line to of) clear = leads p f i _ of (back _ _ clear)
     leads p f i want (binary line op left right) clear =
-        both _ _ _ _ (leads p f i _ left (front _ _ (back _ _ clear))) (leads p f i _ right (back _ _ (back _ _ clear)))
+        both (leads p f i _ left (front _ _ (back _ _ clear))) (leads p f i _ right (back _ _ (back _ _ clear)))
     leads p f i want (choose line test first second) clear =
         let w : Want = choice_want (type_of file p first) (type_of file p second) in
         let own : List Fault = node file p want (choose line test first second) in
         let rest : faults file p wants.Integer test ++ (faults file p w first ++ faults file p w second) ≡ [] =
         back own (faults file p wants.Integer test ++ (faults file p w first ++ faults file p w second)) clear in
         let both_parts : faults file p w first ++ faults file p w second ≡ [] = back (faults file p wants.Integer test) (faults file p w first ++ faults file p w second) rest in
-        both _ _ _ _ (leads p f i wants.Integer test (front (faults file p wants.Integer test) (faults file p w first ++ faults file p w second) rest))
-        (both _ _ _ _ (leads p f i w first (front (faults file p w first) (faults file p w second) both_parts)) (leads p f i w second (back (faults file p w first) (faults file p w second) both_parts)))
+        both (leads p f i wants.Integer test (front (faults file p wants.Integer test) (faults file p w first ++ faults file p w second) rest))
+        (both (leads p f i w first (front (faults file p w first) (faults file p w second) both_parts)) (leads p f i w second (back (faults file p w first) (faults file p w second) both_parts)))
     leads p f i want (assign line op at name index value) clear =
         let w : Want = want_of (type_at p true name index) in
         let own : List Fault = node file p want (assign line op at name index value) in
         let its : List Fault = target p true at name index in
         let rest : its ++ (index_faults file p index ++ faults file p w value) ≡ [] = back own (its ++ (index_faults file p index ++ faults file p w value)) clear in
         let parts : index_faults file p index ++ faults file p w value ≡ [] = back its (index_faults file p index ++ faults file p w value) rest in
-        both _ _ _ _ (index_leads p f i index (front (index_faults file p index) (faults file p w value) parts))
+        both (index_leads p f i index (front (index_faults file p index) (faults file p w value) parts))
         (leads p f i w value (back (index_faults file p index) (faults file p w value) parts))
     leads p f i want (step line at name index up before) clear = index_leads p f i index (back _ _ (back _ _ clear))
     leads p f i want (call line name args) clear =
-        both _ _ _ _ (all_lead p f i _ _ args (back _ _ clear))
+        both (all_lead p f i _ _ args (back _ _ clear))
         (call_leads p f name args i (back _ _ (back _ _ (no_rules line _ (front _ _ clear)))))
 
     index_leads : (p : Place) (f : ℕ) → In p f → (index : Index) → index_faults file p index ≡ [] → Lead file f (index_calls (scope_index (bare unit) p index))
-    index_leads p f i whole clear = tt
+    index_leads p f i whole clear = no_calls
     index_leads p f i (element e) clear = leads p f i _ e clear
 
     all_lead : (p : Place) (f : ℕ) → In p f → (ws : List Want) (further : Want) (es : Expressions) → all_faults file p ws further es ≡ []
         → Lead file f (expressions_calls (scope_all (bare unit) p es))
-    all_lead p f i ws further none clear = tt
+    all_lead p f i ws further none clear = no_calls
     all_lead p f i ws further (and e rest) clear =
-        both _ _ _ _ (leads p f i _ e (front _ _ clear)) (all_lead p f i _ _ rest (back _ _ clear))
+        both (leads p f i _ e (front _ _ clear)) (all_lead p f i _ _ rest (back _ _ clear))
 
   optional_leads : (p : Place) (f : ℕ) → In p f → (want : Want) (e : Option Expression) → optional_faults file p want e ≡ []
       → Lead file f (optional_calls (scope_optional (bare unit) p e))
-  unfolding Lead
-  optional_leads p f i want None clear = tt
+  optional_leads p f i want None clear = no_calls
   optional_leads p f i want (Some e) clear = leads p f i want e clear
 
   initializer_leads : (p : Place) (f : ℕ) → In p f → (base : TypeName) (first : Initializer) → initializer_faults file p base first ≡ []
       → Lead file f (initializer_calls (scope_initializer (bare unit) p first))
-  unfolding Lead
-  initializer_leads p f i base nothing clear = tt
+  initializer_leads p f i base nothing clear = no_calls
   initializer_leads p f i base (single e) clear = leads p f i _ e clear
   initializer_leads p f i base (listed vs comma) clear = all_lead p f i _ _ vs clear
-  initializer_leads p f i base mutex clear = tt
-  initializer_leads p f i base cond clear = tt
+  initializer_leads p f i base mutex clear = no_calls
+  initializer_leads p f i base cond clear = no_calls
 
   declarators_lead : (p : Place) (f : ℕ) → In p f → (base : TypeName) (ds : List InitDeclarator) → declarators_faults file p base ds ≡ []
       → Lead file f (declarators_calls (scope_declarators (bare unit) p base ds))
-  unfolding Lead declarators_faults scope_declarators
-  declarators_lead p f i base [] clear = tt
+  unfolding declarators_faults scope_declarators
+  declarators_lead p f i base [] clear = no_calls
   declarators_lead p f i base (d ∷ rest) clear =
       let q : Place = with_declarator p base d in
       let j : In q f = record { deep = i.deep; same = i.same } in
-      both _ _ _ _ (optional_leads p f i _ d.length (back _ _ (front _ _ (front _ _ clear))))
-      (both _ _ _ _ (initializer_leads q f j base d.first (back _ _ (front _ _ clear))) (declarators_lead q f j base rest (back _ _ clear)))
+      both (optional_leads p f i _ d.length (back _ _ (front _ _ (front _ _ clear))))
+      (both (initializer_leads q f j base d.first (back _ _ (front _ _ clear))) (declarators_lead q f j base rest (back _ _ clear)))
 
   mutual
-    unfolding Lead statement_faults scope_statement
+    unfolding statement_faults scope_statement
 
     statement_leads : (p : Place) (f : ℕ) → In p f → (s : Statement) → statement_faults file p s ≡ [] → Lead file f (statement_calls (scope_statement (bare unit) p s))
-    statement_leads p f i empty clear = tt
+    statement_leads p f i empty clear = no_calls
     statement_leads p f i (eval value) clear = leads p f i _ value clear
     statement_leads p f i (block parts) clear = statements_lead (inside p) f (in_inside p f i) parts clear
     statement_leads p f i (declare of) clear = declarators_lead p f i of.base of.declarators (back _ _ clear)
     statement_leads p f i (when line test first second) clear =
-        both _ _ _ _ (leads p f i _ test (front _ _ clear))
-        (both _ _ _ _ (statement_leads (inside p) f (in_inside p f i) first (front _ _ (back _ _ clear)))
+        both (leads p f i _ test (front _ _ clear))
+        (both (statement_leads (inside p) f (in_inside p f i) first (front _ _ (back _ _ clear)))
         (branch_leads (behind p (after (inside p) first)) f (in_behind p (after (inside p) first) f i) second (back _ _ (back _ _ clear))))
     statement_leads p f i (while line test body) clear =
-        both _ _ _ _ (leads p f i _ test (front _ _ clear)) (statement_leads (inside_loop p) f (in_loop p f i) body (back _ _ clear))
+        both (leads p f i _ test (front _ _ clear)) (statement_leads (inside_loop p) f (in_loop p f i) body (back _ _ clear))
     statement_leads p f i (do_while line body test) clear =
-        both _ _ _ _ (statement_leads (inside_loop p) f (in_loop p f i) body (front _ _ clear))
+        both (statement_leads (inside_loop p) f (in_loop p f i) body (front _ _ clear))
         (leads (behind p (after (inside_loop p) body)) f (in_behind p (after (inside_loop p) body) f i) _ test (back _ _ clear))
     statement_leads p f i (for line first test change body) clear =
         let q : Place = after (inside p) first in
@@ -275,23 +272,23 @@ module _ (unit : TranslationUnit) (facts : Facts) where
         let bodies : List Fault = statement_faults file (inside_loop q) body in
         let rest : tests ++ (changes ++ bodies) ≡ [] = back (statement_faults file (inside p) first) (tests ++ (changes ++ bodies)) clear in
         let last : changes ++ bodies ≡ [] = back tests (changes ++ bodies) rest in
-        both _ _ _ _ (statement_leads (inside p) f (in_inside p f i) first (front (statement_faults file (inside p) first) (tests ++ (changes ++ bodies)) clear))
-        (both _ _ _ _ (optional_leads q f j wants.Integer test (front tests (changes ++ bodies) rest))
-        (both _ _ _ _ (optional_leads q f j wants.Unneeded change (front changes bodies last))
+        both (statement_leads (inside p) f (in_inside p f i) first (front (statement_faults file (inside p) first) (tests ++ (changes ++ bodies)) clear))
+        (both (optional_leads q f j wants.Integer test (front tests (changes ++ bodies) rest))
+        (both (optional_leads q f j wants.Unneeded change (front changes bodies last))
         (statement_leads (inside_loop q) f (in_loop q f j) body (back changes bodies last))))
-    statement_leads p f i (break line) clear = tt
-    statement_leads p f i (continue line) clear = tt
+    statement_leads p f i (break line) clear = no_calls
+    statement_leads p f i (continue line) clear = no_calls
     statement_leads p f i (return line value) clear = optional_leads p f i _ value (back _ _ clear)
     statement_leads p f i (label name of) clear = statement_leads p f i of clear
 
     branch_leads : (p : Place) (f : ℕ) → In p f → (b : Branch) → branch_faults file p b ≡ [] → Lead file f (branch_calls (scope_branch (bare unit) p b))
-    branch_leads p f i absent clear = tt
+    branch_leads p f i absent clear = no_calls
     branch_leads p f i (branch of) clear = statement_leads (inside p) f (in_inside p f i) of clear
 
     statements_lead : (p : Place) (f : ℕ) → In p f → (parts : Statements) → statements_faults file p parts ≡ [] → Lead file f (statements_calls (scope_statements (bare unit) p parts))
-    statements_lead p f i nil clear = tt
+    statements_lead p f i nil clear = no_calls
     statements_lead p f i (cons s rest) clear =
-        both _ _ _ _ (statement_leads p f i s (front _ _ clear)) (statements_lead (after p s) f (in_kept p (after p s) f (kept p s) i) rest (back _ _ clear))
+        both (statement_leads p f i s (front _ _ clear)) (statements_lead (after p s) f (in_kept p (after p s) f (kept p s) i) rest (back _ _ clear))
 
   body_leads : (p : Place) (f : ℕ) → In p f → (s : Statement) → body_faults file p s ≡ [] → Lead file f (statement_calls (scope_body (bare unit) p s))
   body_leads p f i (block parts) clear = statements_lead p f i parts clear
@@ -360,7 +357,7 @@ call_of unit facts f g clear c =
     let lead : Lead (file_with unit facts) (0 + f) (statement_calls (body_at functions f)) = externals_lead unit facts opening unit.externals refl (front _ _ clear) f low in
     let same : Lead (file_with unit facts) f (statement_calls (body_at functions f)) = subst (λ (n : ℕ). Lead (file_with unit facts) n (statement_calls (body_at functions f))) (omega arith) lead in
     let found : Contains (statement_calls (body_at functions f)) g = subst (λ (r : List ℕ). Contains r g) (row_at functions f low) c in
-    lead_among (file_with unit facts) f g (statement_calls (body_at functions f)) same (contains_among (statement_calls (body_at functions f)) g found)
+    same.each g (contains_among (statement_calls (body_at functions f)) g found)
 
 pub recursion_free : (unit : TranslationUnit) → AreFaults unit [] → IsRecursionFree (scoped_of unit).functions
 unfolding scoped_of file_with

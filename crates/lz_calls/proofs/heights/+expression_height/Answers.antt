@@ -9,7 +9,7 @@ use Rattle.lz_calls.proofs.heights.+expression_height.Goals as goal
 pub expressions_height-returns : goal.expressions_height-returns
 expressions_height-returns t c =
     let counts : ℕ → ℕ = counts_at c.args.levels.now.ranks.now c.args.levels.now.own (slice_index c.args.levels.now.heights.now) in
-    top_end _ _ _ _ (omega arith) c.loop-item.invariant ∙ ap capped (sym (height_in_all-of counts scoped_expression c.args.items.now))
+    top_end (omega arith) c.loop-item.invariant ∙ ap capped (sym (height_in_all-of counts scoped_expression c.args.items.now))
 
 pub expression_height-returns-in-Call : goal.expression_height-returns-in-Call
 unfolding height_in

@@ -1,4 +1,4 @@
-use Rattle.std.proofs.Common.{◌≡◌, ◌∙◌, ℕ, suc, slice_index, ap, sym, arith}
+use Rattle.std.proofs.Common.{◌≡◌, ◌∙◌, ℕ, slice_index, ap, sym, arith}
 use Rattle.lz_tree.specs.ScopedTrees.{scoped_statement}
 use Rattle.lz_tree.proofs.ScopedTreesLemmas.{is_scoped_block}
 use Rattle.lz_calls.specs.Calls.{height_of}
@@ -9,7 +9,7 @@ use Rattle.lz_calls.proofs.heights.+statement_height.Goals as goal
 pub parts_height-returns : goal.parts_height-returns
 parts_height-returns t c =
     let counts : ℕ → ℕ = counts_at c.args.levels.now.ranks.now c.args.levels.now.own (slice_index c.args.levels.now.heights.now) in
-    top_end _ _ _ _ (omega arith) c.loop-item.invariant ∙ ap capped (sym (height_of_all-of counts scoped_statement c.args.items.now))
+    top_end (omega arith) c.loop-item.invariant ∙ ap capped (sym (height_of_all-of counts scoped_statement c.args.items.now))
 
 pub statement_height-returns-in-Block : goal.statement_height-returns-in-Block
 unfolding height_of

@@ -7,5 +7,5 @@ use Rattle.lz_calls.proofs.heights.declaration_height.Goals as goal
 pub returns : goal.returns
 returns c =
     let counts : ℕ → ℕ = counts_at c.args.levels.now.ranks.now c.args.levels.now.own (slice_index c.args.levels.now.heights.now) in
-    let all = rw c.items-items.ensures at (top_end _ _ _ _ (omega arith) c.loop-item.invariant) in
+    let all = rw c.items-items.ensures at (top_end (omega arith) c.loop-item.invariant) in
     all ∙ ap capped (sym (height_in_declarators-of counts scoped_declarator c.args.objects.now.declarators))

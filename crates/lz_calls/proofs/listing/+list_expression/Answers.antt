@@ -7,7 +7,7 @@ use Rattle.lz_calls.proofs.listing.+list_expression.Goals as goal
 
 pub list_expressions-returns : goal.list_expressions-returns
 list_expressions-returns t c =
-    so_far_end _ _ _ _ _ (omega arith) c.loop-item.invariant ∙ ap (λ ys. c.args.calls.now ++ ys) (sym (expressions_calls-of scoped_expression c.args.items.now))
+    so_far_end (omega arith) c.loop-item.invariant ∙ ap (λ ys. c.args.calls.now ++ ys) (sym (expressions_calls-of scoped_expression c.args.items.now))
 
 pub list_expression-returns-in_ok-list_call-in-Call : goal.list_expression-returns-in_ok-list_call-in-Call
 list_expression-returns-in_ok-list_call-in-Call t c =

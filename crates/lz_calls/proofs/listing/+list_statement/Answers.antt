@@ -7,7 +7,7 @@ use Rattle.lz_calls.proofs.listing.+list_statement.Goals as goal
 
 pub list_parts-returns : goal.list_parts-returns
 list_parts-returns t c =
-    so_far_end _ _ _ _ _ (omega arith) c.loop-item.invariant ∙ ap (λ ys. c.args.calls.now ++ ys) (sym (statements_calls-of scoped_statement c.args.items.now))
+    so_far_end (omega arith) c.loop-item.invariant ∙ ap (λ ys. c.args.calls.now ++ ys) (sym (statements_calls-of scoped_statement c.args.items.now))
 
 pub list_statement-returns-in_ok-list_parts-in-Block : goal.list_statement-returns-in_ok-list_parts-in-Block
 list_statement-returns-in_ok-list_parts-in-Block t c =

@@ -4,4 +4,4 @@ use Rattle.lz_calls.proofs.ListingLemmas.{graph_of-of, so_far_end}
 use Rattle.lz_calls.proofs.listing.graph.Goals as goal
 
 pub returns : goal.returns
-returns c = so_far_end _ _ _ _ _ (omega arith) c.loop-function.invariant ∙ sym (graph_of-of scoped_definition c.args.functions.now)
+returns c = so_far_end (omega arith) c.loop-function.invariant ∙ sym (graph_of-of scoped_definition c.args.functions.now)
