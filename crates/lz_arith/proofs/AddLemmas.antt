@@ -27,12 +27,12 @@ sum_of_three x y c d s n e f g = rw (g, f, e) (three x y c)
     three false false false = omega arith
 
 -- the three gates make a full adder
-pub full_add_makes : (one two three four : Circuit) (x y c d s n : Lit)
+pub full_add_makes : {one two three four : Circuit} (x y c d s n : Lit)
     → Makes one two 1 4 (λ a. value a d ≡ xor (value a x) (value a y))
     → Makes two three 1 4 (λ a. value a s ≡ xor (value a d) (value a c))
     → Makes three four 1 6 (λ a. value a n ≡ choice (value a d) (value a c) (value a x))
     → Makes one four 3 14 (λ a. bit (value a s) + 2 * bit (value a n) ≡ bit (value a x) + bit (value a y) + bit (value a c))
-full_add_makes one two three four x y c d s n h k l =
+full_add_makes {one} {two} {three} {four} x y c d s n h k l =
     makes_then one three four 2 1 8 6
     (λ a. (value a d ≡ xor (value a x) (value a y)) × (value a s ≡ xor (value a d) (value a c))) _ _
     (makes_then one two three 1 1 4 4 _ _ _ h k (λ a p q. (p, q)))
@@ -60,9 +60,9 @@ pub are_lits_more : (old new : Circuit) (lits : List Lit) → old.variables ≤ 
 are_lits_more old new lits le h k d lt = let p = h k d lt in omega (arith, p)
 
 -- before the first place the sum is the carry
-pub sum_none : (start : Circuit) (left right : List Lit) (first : Lit) → AreLits start left → AreLits start right → IsLit start first → IsSumSoFar start start left right first first [] 0
+pub sum_none : {start : Circuit} {left right : List Lit} {first : Lit} → AreLits start left → AreLits start right → IsLit start first → IsSumSoFar start start left right first first [] 0
 unfolding word
-sum_none start left right first hl hr h = record {
+sum_none {start} hl hr h = record {
   lefts = hl;
   rights = hr;
   bits_in = record { length = refl; lits = λ k d lt. absurd (omega arith) };
@@ -71,12 +71,12 @@ sum_none start left right first hl hr h = record {
 }
 
 -- one more full adder adds one more place
-pub sum_more : (start now next : Circuit) (left right : List Lit) (first carried sum carry : Lit) (bits : List Lit) (i : ℕ) (d e : Lit)
+pub sum_more : {start now next : Circuit} {left right : List Lit} {first carried : Lit} (sum : Lit) {carry : Lit} {bits : List Lit} {i : ℕ} (d e : Lit)
     → IsSumSoFar start now left right first carried bits i → i < length left → i < length right
     → IsLit next sum → IsLit next carry
     → Makes now next 3 14 (λ a. bit (value a sum) + 2 * bit (value a carry) ≡ bit (value a (get_or left i d)) + bit (value a (get_or right i e)) + bit (value a carried))
     → IsSumSoFar start next left right first carry (bits ++ sum ∷ []) (i + 1)
-sum_more start now next left right first carried sum carry bits i d e h lt ltr s_in c_in made = record {
+sum_more {start} {now} {next} {left} {right} {first} sum {carry} {bits} {i} d e h lt ltr s_in c_in made = record {
   lefts = are_lits_more now next left made.extends.more h.lefts;
   rights = are_lits_more now next right made.extends.more h.rights;
   bits_in = record {
@@ -100,9 +100,9 @@ pub sum_mod : (w p t : ℕ) (c : Bool) → w < p → w + p * bit c ≡ t → w �
 sum_mod w p t c lt e = sym (ap (λ (n : ℕ). n % p) (sym e ∙ add_comm w (p * bit c) ∙ ap (λ (n : ℕ). n + w) (mul_comm p (bit c))) ∙ mod-mul-add (bit c) p w lt)
 
 -- after all places it is the sum of the words
-pub sum_all : (start now : Circuit) (left right : List Lit) (first carried : Lit) (bits : List Lit) (i : ℕ) → IsSumSoFar start now left right first carried bits i → i ≡ length left → i ≡ length right
+pub sum_all : {start now : Circuit} {left right : List Lit} {first carried : Lit} {bits : List Lit} {i : ℕ} → IsSumSoFar start now left right first carried bits i → i ≡ length left → i ≡ length right
     → Makes start now (3 * length left) (14 * length left) (λ a. word a bits + 2 ^ length left * bit (value a carried) ≡ word a left + word a right + bit (value a first))
-sum_all start now left right first carried bits i h e f =
+sum_all {start} {now} {left} {right} {first} {carried} {bits} {i} h e f =
     makes_so start now (3 * i) (3 * length left) (14 * i) (14 * length left) _ _ h.made (omega arith) (omega arith)
     (λ a s p.
     let tl : take i left ≡ left = take_all i left (omega arith) in
@@ -110,9 +110,9 @@ sum_all start now left right first carried bits i h e f =
     ap (λ (n : ℕ). word a bits + 2 ^ n * bit (value a carried)) (sym e) ∙ p ∙ ap (λ (xs : List Lit). word a xs + word a (take i right) + bit (value a first)) tl ∙ ap (λ (xs : List Lit). word a left + word a xs + bit (value a first)) tr)
 
 -- the bits alone are the sum modulo 2 to the width
-pub sum_modulo : (start now : Circuit) (left right bits : List Lit) (first carried : Lit) (v c : ℕ)
+pub sum_modulo : {start now : Circuit} (left right : List Lit) {bits : List Lit} (first carried : Lit) {v c : ℕ}
     → Makes start now v c (λ a. word a bits + 2 ^ length left * bit (value a carried) ≡ word a left + word a right + bit (value a first)) → AreBits now (length left) bits
     → Makes start now v c (λ a. word a bits ≡ (word a left + word a right + bit (value a first)) % 2 ^ length left)
-sum_modulo start now left right bits first carried v c h in_ =
+sum_modulo {start} {now} left right {bits} first carried {v} {c} h in_ =
     makes_so start now v v c c _ _ h (omega arith) (omega arith)
     (λ a s p. sum_mod (word a bits) (2 ^ length left) _ (value a carried) (let q = word_lt a bits in subst (λ (n : ℕ). word a bits < 2 ^ n) in_.length q) p)

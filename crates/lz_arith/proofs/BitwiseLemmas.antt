@@ -20,9 +20,9 @@ use Rattle.lz_arith.proofs.LoopsLemmas.{push_at, less_at}
 use Rattle.lz_arith.proofs.AddLemmas.{are_lits_more}
 
 -- neither of two literals, in the other sign
-pub or_makes : (old new : Circuit) (left right no_left no_right neither some : Lit) → no_left ≡ negated left → no_right ≡ negated right → some ≡ negated neither
+pub or_makes : {old new : Circuit} (left right : Lit) {no_left no_right : Lit} (neither : Lit) {some : Lit} → no_left ≡ negated left → no_right ≡ negated right → some ≡ negated neither
     → Makes old new 1 3 (λ a. value a neither ≡ (value a no_left && value a no_right)) → Makes old new 1 3 (λ a. value a some ≡ (value a left || value a right))
-or_makes old new left right no_left no_right neither some e f g h =
+or_makes {old} {new} left right {no_right} neither e f g h =
     makes_so old new 1 1 3 3 _ _ h (omega arith) (omega arith)
     (λ a s p. ap (value a) g ∙ value-negated a neither
     ∙ ap not (p ∙ ap (λ (l : Lit). value a l && value a no_right) e ∙ ap (λ (l : Lit). value a (negated left) && value a l) f
@@ -97,11 +97,11 @@ bitwise_none start kind left right hl hr = record {
 }
 
 -- one more gate combines one more place
-pub bitwise_more : (start now next : Circuit) (kind : Bitwise) (left right : List Lit) (lit : Lit) (i : ℕ) (bits : List Lit) (d e : Lit)
+pub bitwise_more : {start now next : Circuit} {kind : Bitwise} {left right : List Lit} (lit : Lit) {i : ℕ} {bits : List Lit} (d e : Lit)
     → Combines start now kind left right bits i → i < length left → i < length right → IsLit next lit
     → Makes now next 1 4 (λ a. value a lit ≡ bitwise_value kind (value a (get_or left i d)) (value a (get_or right i e)))
     → Combines start next kind left right (bits ++ lit ∷ []) (i + 1)
-bitwise_more start now next kind left right lit i bits d e h lt ltr lit_in made = record {
+bitwise_more {start} {now} {next} {kind} {left} {right} lit {i} {bits} d e h lt ltr lit_in made = record {
   lefts = are_lits_more now next left made.extends.more h.lefts;
   rights = are_lits_more now next right made.extends.more h.rights;
   bits_in = record {
@@ -117,10 +117,10 @@ bitwise_more start now next kind left right lit i bits d e h lt ltr lit_in made 
 }
 
 -- after all places the words are combined
-pub bitwise_all : (start now : Circuit) (kind : Bitwise) (left right : List Lit) (i : ℕ) (bits : List Lit)
+pub bitwise_all : {start now : Circuit} {kind : Bitwise} {left right : List Lit} {i : ℕ} {bits : List Lit}
     → Combines start now kind left right bits i → i ≡ length left → i ≡ length right
     → Makes start now (length left) (4 * length left) (λ a. word a bits ≡ bitwise_number kind (word a left) (word a right))
-bitwise_all start now kind left right i bits h e f =
+bitwise_all {start} {now} {kind} {left} {right} {i} h e f =
     makes_so start now i (length left) (4 * i) (4 * length left) _ _ h.made (omega arith) (omega arith)
     (λ a s p. p ∙ ap (λ (xs : List Lit). bitwise_number kind (word a xs) (word a (take i right))) (take_all i left (omega arith)) ∙ ap (λ (xs : List Lit). bitwise_number kind (word a left) (word a xs)) (take_all i right (omega arith)))
 
@@ -167,12 +167,12 @@ differ_test n x y lx ly = ap not (by (eqb x y) refl)
     by false e = apart (bit_xor x y) 0 (λ z. eqb-false x y e (no_bit_differs n x y lx ly z))
 
 -- the truth test of the difference bit by bit
-pub differ_makes : (one two three : Circuit) (left right bits held : List Lit) (test : Lit) (n : ℕ)
+pub differ_makes : {one two three : Circuit} (left right : List Lit) {bits held : List Lit} (test : Lit) {n : ℕ}
     → length left ≡ n → length right ≡ n → held ≡ bits → length held ≡ n
     → Makes one two n (4 * n) (λ a. word a bits ≡ bit_xor (word a left) (word a right))
     → Makes two three 1 (length held + 1) (λ a. value a test ≡ not (eqb (word a held) 0))
     → Makes one three (n + 1) (5 * n + 1) (λ a. value a test ≡ not (eqb (word a left) (word a right)))
-differ_makes one two three left right bits held test n ll lr is long h k =
+differ_makes {one} {two} {three} left right {held} test {n} ll lr is long h k =
     makes_so one three (n + 1) (n + 1) (4 * n + (length held + 1)) (5 * n + 1) _ _
     (makes_then one two three n 1 (4 * n) (length held + 1) _ _ (λ a. value a test ≡ not (eqb (word a left) (word a right))) h k
     (λ a p q. q ∙ ap (λ (m : ℕ). not (eqb m 0)) (ap (word a) is ∙ p)

@@ -74,7 +74,7 @@ divide_bit true d r D m p diff next s h small e dp c f g lt = divide_fits d r D 
 divide_bit false d r D m p diff next s h small e dp c f g lt = divide_not d r D m p diff next s small e lt dp c f g
 
 -- the circuits of a step make a step of a long division
-pub step_makes : (one two three : Circuit) (rest divisor wide minus taken less low same next : List Lit) (digit off on fits : Lit) (v w c e : ℕ)
+pub step_makes : {one two three : Circuit} (rest divisor : List Lit) {wide : List Lit} (minus taken less : List Lit) {low same : List Lit} (next : List Lit) (digit off on fits : Lit) {v w c e : ℕ}
     → ((a : Assignment) → Satisfies a one.clauses → value a off ≡ false) → ((a : Assignment) → Satisfies a one.clauses → value a on ≡ true)
     → length divisor ≡ length rest → wide ≡ divisor ++ off ∷ [] → minus ≡ negations wide → taken ≡ digit ∷ rest
     → length less ≡ length taken → low ≡ take (length rest) less → same ≡ take (length rest) taken
@@ -83,7 +83,7 @@ pub step_makes : (one two three : Circuit) (rest divisor wide minus taken less l
     → Makes one three (v + w) (c + e) (λ a. word a rest < word a divisor
     → (bit (value a fits) * word a divisor + word a next ≡ bit (value a digit) + 2 * word a rest) × (word a next < word a divisor))
 unfolding word
-step_makes one two three rest divisor wide minus taken less low same next digit off on fits v w c e off_false on_true wide_is wide_at minus_at taken_at less_at low_at same_at h k =
+step_makes {one} {two} {three} rest divisor {wide} minus taken less {low} {same} next digit off on fits {v} {w} {c} {e} off_false on_true wide_is wide_at minus_at taken_at less_at low_at same_at h k =
     makes_so one three (v + w) (v + w) (c + e) (c + e)
     (λ a. (word a less + 2 ^ length taken * bit (value a fits) ≡ word a taken + word a minus + bit (value a on)) × (word a next ≡ cond (value a fits) (word a low) (word a same))) _
     (makes_then one two three v w c e _ _ _ h k (λ a p q. (p, q)))
@@ -122,9 +122,9 @@ one_in circuit x h zero d lt = h
 one_in circuit x h (suc k) d lt = absurd (omega arith)
 
 -- the words that a step is made of are words of the circuit
-pub parts : (circuit : Circuit) (rest divisor taken minus : List Lit) (digit off : Lit) → taken ≡ digit ∷ rest → minus ≡ negations (divisor ++ off ∷ [])
+pub parts : (circuit : Circuit) {rest divisor taken minus : List Lit} {digit off : Lit} → taken ≡ digit ∷ rest → minus ≡ negations (divisor ++ off ∷ [])
     → AreLits circuit rest → AreBits circuit (length rest) divisor → IsLit circuit digit → IsLit circuit off → Parts circuit rest divisor taken minus digit off
-parts circuit rest divisor taken minus digit off e f hr hd h k =
+parts circuit {rest} {divisor} {taken} {digit} {off} e f hr hd h k =
     let long : length taken ≡ length rest + 1 = ap (λ (xs : List Lit). length xs) e ∙ sym (add-one (length rest)) in
     record {
       taken_at = e;
@@ -149,10 +149,10 @@ pub record Divides (start now : Circuit) (left divisor quotient rest : List Lit)
       (λ a. 0 < word a divisor → (word a quotient * word a divisor + word a rest ≡ word a (drop (length left - i) left)) × (word a rest < word a divisor))
 
 -- before the first digit both are 0
-pub divides_none : (start : Circuit) (left divisor rest : List Lit) (off : Lit) → AreLits start left → AreBits start (length left) divisor → AreBits start (length left) rest → rest ≡ copies (length left) off
+pub divides_none : (start : Circuit) {left divisor rest : List Lit} (off : Lit) → AreLits start left → AreBits start (length left) divisor → AreBits start (length left) rest → rest ≡ copies (length left) off
     → ((a : Assignment) → Satisfies a start.clauses → value a off ≡ false) → Divides start start left divisor [] rest 0
 unfolding word
-divides_none start left divisor rest off hl hd hr is off_false = record {
+divides_none start {left} {rest} off hl hd hr is off_false = record {
   lefts = hl;
   divisor_in = hd;
   quotient_in = record { length = refl; lits = λ k d lt. absurd (omega arith) };
@@ -209,10 +209,10 @@ quotient_is : (q D r N : ℕ) → q * D + r ≡ N → r < D → (q ≡ N / D) ×
 quotient_is q D r N e lt = (sym (ap (λ (m : ℕ). m / D) (sym e) ∙ div-mul-add q D r lt), sym (ap (λ (m : ℕ). m % D) (sym e) ∙ mod-mul-add q D r lt))
 
 -- after all digits they are those of the word
-pub divides_all : (start now : Circuit) (left divisor quotient rest : List Lit) (i : ℕ) → Divides start now left divisor quotient rest i → i ≡ length left
+pub divides_all : {start now : Circuit} {left divisor quotient rest : List Lit} {i : ℕ} → Divides start now left divisor quotient rest i → i ≡ length left
     → Makes start now ((4 * length left + 3) * length left) ((20 * length left + 14) * length left)
     (λ a. 0 < word a divisor → (word a quotient ≡ word a left / word a divisor) × (word a rest ≡ word a left % word a divisor))
-divides_all start now left divisor quotient rest i h e =
+divides_all {start} {now} {left} {divisor} {quotient} {rest} {i} h e =
     makes_so start now ((4 * length left + 3) * i) ((4 * length left + 3) * length left) ((20 * length left + 14) * i) ((20 * length left + 14) * length left) _ _ h.made
     (mul-le-mul_left (4 * length left + 3) (omega arith)) (mul-le-mul_left (20 * length left + 14) (omega arith))
     (λ a s p pos.
@@ -228,12 +228,12 @@ digits_room n i now start lt le room =
     omega arith
 
 -- a turn of the loop is one more step
-pub divides_turn : (start now next : Circuit) (left divisor quotient rest seen more held r : List Lit) (i at : ℕ) (d fits : Lit) → Divides start now left divisor quotient rest i → i < length left → at ≡ length left - 1 - i
+pub divides_turn : {start now next : Circuit} {left divisor quotient rest seen more held r : List Lit} {i at : ℕ} (d : Lit) {fits : Lit} → Divides start now left divisor quotient rest i → i < length left → at ≡ length left - 1 - i
     → seen ≡ rest → held ≡ quotient → IsLit next fits → AreBits next (length seen) r → more ≡ fits ∷ held
     → Makes now next (4 * length seen + 3) (20 * length seen + 14) (λ a. word a seen < word a divisor
     → (bit (value a fits) * word a divisor + word a r ≡ bit (value a (get_or left at d)) + 2 * word a seen) × (word a r < word a divisor))
     → Divides start next left divisor more r (i + 1)
-divides_turn start now next left divisor quotient rest seen more held r i at d fits h lt at_is seen_is held_is fits_in r_in is made =
+divides_turn {start} {now} {next} {left} {divisor} {quotient} {rest} {seen} {more} {r} {i} {at} d {fits} h lt at_is seen_is held_is fits_in r_in is made =
     let long : length seen ≡ length left = ap (λ (xs : List Lit). length xs) seen_is ∙ h.rest_in.length in
     let own = subst (λ (n : ℕ). Makes now next (4 * n + 3) (20 * n + 14) (λ a. word a seen < word a divisor → (bit (value a fits) * word a divisor + word a r ≡ bit (value a (get_or left at d)) + 2 * word a seen) × (word a r < word a divisor))) long made in
     let whole = subst (λ (xs : List Lit). Makes now next (4 * length left + 3) (20 * length left + 14) (λ a. word a xs < word a divisor → (bit (value a fits) * word a divisor + word a r ≡ bit (value a (get_or left at d)) + 2 * word a xs) × (word a r < word a divisor))) seen_is own in

@@ -25,8 +25,8 @@ freshens_none start = record {
 }
 
 -- one more
-pub freshens_more : (start now next : Circuit) (bits : List Lit) (lit : Lit) (i : ℕ) → Freshens start now bits i → lit.0 ≡ 2 * now.variables → next.variables ≡ now.variables + 1 → Freshens start next (bits ++ lit ∷ []) (i + 1)
-freshens_more start now next bits lit i h e more = record {
+pub freshens_more : {start now next : Circuit} {bits : List Lit} (lit : Lit) {i : ℕ} → Freshens start now bits i → lit.0 ≡ 2 * now.variables → next.variables ≡ now.variables + 1 → Freshens start next (bits ++ lit ∷ []) (i + 1)
+freshens_more {start} {now} {next} {bits} lit {i} h e more = record {
   bits_in = record {
     length = length_push bits lit ∙ ap (λ (n : ℕ). n + 1) h.bits_in.length;
     lits = All-push (IsLit next) bits lit (are_lits_more now next bits (omega arith) h.bits_in.lits) (omega arith);

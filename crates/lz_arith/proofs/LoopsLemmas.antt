@@ -64,25 +64,25 @@ cond_same true = refl
 cond_same false = refl
 
 -- before the first bit nothing is chosen
-pub chooses_none : (start : Circuit) (left right : List Lit) (test : Lit) → AreLits start left → AreLits start right → IsLit start test → Grows start start left right test 0 [] 0 (6 * 0) (Chosen test left right [] 0)
+pub chooses_none : {start : Circuit} {left right : List Lit} {test : Lit} → AreLits start left → AreLits start right → IsLit start test → Grows start start left right test 0 [] 0 (6 * 0) (Chosen test left right [] 0)
 unfolding word
-chooses_none start left right test hl hr h = grows_none start left right test (Chosen test left right [] 0) hl hr h (λ a. cond_same (value a test))
+chooses_none {start} {left} {right} {test} hl hr h = grows_none start left right test (Chosen test left right [] 0) hl hr h (λ a. cond_same (value a test))
 
 -- one more choice is one more bit
-pub chooses_more : (start now next : Circuit) (left right : List Lit) (test lit : Lit) (i : ℕ) (bits : List Lit) (d e : Lit)
+pub chooses_more : {start now next : Circuit} {left right : List Lit} {test : Lit} (lit : Lit) {i : ℕ} {bits : List Lit} (d e : Lit)
     → Grows start now left right test i bits i (6 * i) (Chosen test left right bits i) → i < length left → i < length right → IsLit next lit
     → Makes now next 1 6 (λ a. value a lit ≡ choice (value a test) (value a (get_or left i d)) (value a (get_or right i e)))
     → Grows start next left right test (i + 1) (bits ++ lit ∷ []) (i + 1) (6 * (i + 1)) (Chosen test left right (bits ++ lit ∷ []) (i + 1))
-chooses_more start now next left right test lit i bits d e h lt ltr lit_in made =
+chooses_more {start} {now} {next} {left} {right} {test} lit {i} {bits} d e h lt ltr lit_in made =
     grows_more start now next left right test lit i bits i 1 (i + 1) (6 * i) 6 (6 * (i + 1)) _ _ (Chosen test left right (bits ++ lit ∷ []) (i + 1)) h made lit_in (omega arith) (omega arith)
     (λ a p q. rw (push_at a bits lit i h.bits_in.length, word_take a left i d lt, word_take a right i e ltr)
     (choice_step (value a test) _ _ (value a lit) (word a bits) (word a (take i left)) (word a (take i right)) (2 ^ i) p q))
 
 -- after all bits the word is chosen
-pub chooses_all : (start now : Circuit) (left right : List Lit) (test : Lit) (i : ℕ) (bits : List Lit)
+pub chooses_all : {start now : Circuit} {left right : List Lit} {test : Lit} {i : ℕ} {bits : List Lit}
     → Grows start now left right test i bits i (6 * i) (Chosen test left right bits i) → i ≡ length left → i ≡ length right
     → Makes start now (length left) (6 * length left) (λ a. word a bits ≡ cond (value a test) (word a left) (word a right))
-chooses_all start now left right test i bits h e f =
+chooses_all {start} {now} {left} {right} {test} {i} h e f =
     makes_so start now i (length left) (6 * i) (6 * length left) _ _ h.made (omega arith) (omega arith)
     (λ a s p. p ∙ ap (λ (xs : List Lit). cond (value a test) (word a xs) (word a (take i right))) (take_all i left (omega arith)) ∙ ap (λ (xs : List Lit). cond (value a test) (word a left) (word a xs)) (take_all i right (omega arith)))
 
@@ -98,25 +98,25 @@ mask_step true x z w l p e f = rw (e, f) (omega arith)
 mask_step false x z w l p e f = rw (e, f) (omega arith)
 
 -- before the first bit nothing is masked
-pub masks_none : (start : Circuit) (left : List Lit) (test : Lit) → AreLits start left → IsLit start test → Grows start start left left test 0 [] 0 (3 * 0) (Masked test left [] 0)
+pub masks_none : {start : Circuit} {left : List Lit} {test : Lit} → AreLits start left → IsLit start test → Grows start start left left test 0 [] 0 (3 * 0) (Masked test left [] 0)
 unfolding word
-masks_none start left test hl h = grows_none start left left test (Masked test left [] 0) hl hl h (λ a. omega arith)
+masks_none {start} {left} {test} hl h = grows_none start left left test (Masked test left [] 0) hl hl h (λ a. omega arith)
 
 -- one more conjunction is one more bit
-pub masks_more : (start now next : Circuit) (left : List Lit) (test lit : Lit) (i : ℕ) (bits : List Lit) (d : Lit)
+pub masks_more : {start now next : Circuit} {left : List Lit} {test : Lit} (lit : Lit) {i : ℕ} {bits : List Lit} (d : Lit)
     → Grows start now left left test i bits i (3 * i) (Masked test left bits i) → i < length left → IsLit next lit
     → Makes now next 1 3 (λ a. value a lit ≡ (value a test && value a (get_or left i d)))
     → Grows start next left left test (i + 1) (bits ++ lit ∷ []) (i + 1) (3 * (i + 1)) (Masked test left (bits ++ lit ∷ []) (i + 1))
-masks_more start now next left test lit i bits d h lt lit_in made =
+masks_more {start} {now} {next} {left} {test} lit {i} {bits} d h lt lit_in made =
     grows_more start now next left left test lit i bits i 1 (i + 1) (3 * i) 3 (3 * (i + 1)) _ _ (Masked test left (bits ++ lit ∷ []) (i + 1)) h made lit_in (omega arith) (omega arith)
     (λ a p q. rw (push_at a bits lit i h.bits_in.length, word_take a left i d lt)
     (mask_step (value a test) _ (value a lit) (word a bits) (word a (take i left)) (2 ^ i) p q))
 
 -- after all bits the word is masked
-pub masks_all : (start now : Circuit) (left : List Lit) (test : Lit) (i : ℕ) (bits : List Lit)
+pub masks_all : {start now : Circuit} {left : List Lit} {test : Lit} {i : ℕ} {bits : List Lit}
     → Grows start now left left test i bits i (3 * i) (Masked test left bits i) → i ≡ length left
     → Makes start now (length left) (3 * length left) (λ a. word a bits ≡ bit (value a test) * word a left)
-masks_all start now left test i bits h e =
+masks_all {start} {now} {left} {test} {i} h e =
     makes_so start now i (length left) (3 * i) (3 * length left) _ _ h.made (omega arith) (omega arith)
     (λ a s p. p ∙ ap (λ (xs : List Lit). bit (value a test) * word a xs) (take_all i left (omega arith)))
 
@@ -157,18 +157,18 @@ pub less_at : (a : Assignment) (xs : List Lit) (i : ℕ) → i ≤ length xs →
 less_at a xs i le = subst (λ (n : ℕ). word a (take i xs) < 2 ^ n) (length-take-le i xs le) (word_lt a (take i xs))
 
 -- a difference and a choice make one place of a comparison
-pub less_bit_makes : (one two three : Circuit) (x y l d z : Lit)
+pub less_bit_makes : {one two three : Circuit} (x y l d z : Lit)
     → Makes one two 1 4 (λ a. value a d ≡ xor (value a x) (value a y))
     → Makes two three 1 6 (λ a. value a z ≡ choice (value a d) (value a y) (value a l))
     → Makes one three 2 10 (λ a. value a z ≡ choice (xor (value a x) (value a y)) (value a y) (value a l))
-less_bit_makes one two three x y l d z h k =
+less_bit_makes {one} {two} {three} x y l d z h k =
     makes_then one two three 1 1 4 6 _ _ _ h k (λ a p q. q ∙ ap (λ (t : Bool). choice t (value a y) (value a l)) p)
 
 -- before the first place neither is below the other
-pub compares_none : (start : Circuit) (left right : List Lit) (less : Lit) → AreLits start left → AreLits start right → IsLit start less
+pub compares_none : {start : Circuit} {left right : List Lit} {less : Lit} → AreLits start left → AreLits start right → IsLit start less
     → ((a : Assignment) → Satisfies a start.clauses → value a less ≡ false) → Compares start start left right less 0
 unfolding word
-compares_none start left right less hl hr h off = record {
+compares_none {start} {left} {right} {less} hl hr h off = record {
   lefts = hl;
   rights = hr;
   less_in = h;
@@ -176,11 +176,11 @@ compares_none start left right less hl hr h off = record {
 }
 
 -- one more place is compared
-pub compares_more : (start now next : Circuit) (left right : List Lit) (less lit : Lit) (i : ℕ) (d e : Lit)
+pub compares_more : {start now next : Circuit} {left right : List Lit} {less lit : Lit} {i : ℕ} (d e : Lit)
     → Compares start now left right less i → i < length left → i < length right → IsLit next lit
     → Makes now next 2 10 (λ a. value a lit ≡ choice (xor (value a (get_or left i d)) (value a (get_or right i e))) (value a (get_or right i e)) (value a less))
     → Compares start next left right lit (i + 1)
-compares_more start now next left right less lit i d e h lt ltr lit_in made = record {
+compares_more {start} {now} {next} {left} {right} {less} {lit} {i} d e h lt ltr lit_in made = record {
   lefts = are_lits_more now next left made.extends.more h.lefts;
   rights = are_lits_more now next right made.extends.more h.rights;
   less_in = lit_in;
@@ -192,8 +192,8 @@ compares_more start now next left right less lit i d e h lt ltr lit_in made = re
 }
 
 -- after all places the words are
-pub compares_all : (start now : Circuit) (left right : List Lit) (less : Lit) (i : ℕ) → Compares start now left right less i → i ≡ length left → i ≡ length right
+pub compares_all : {start now : Circuit} {left right : List Lit} {less : Lit} {i : ℕ} → Compares start now left right less i → i ≡ length left → i ≡ length right
     → Makes start now (2 * length left) (10 * length left) (λ a. value a less ≡ ltb (word a left) (word a right))
-compares_all start now left right less i h e f =
+compares_all {start} {now} {left} {right} {i} h e f =
     makes_so start now (2 * i) (2 * length left) (10 * i) (10 * length left) _ _ h.made (omega arith) (omega arith)
     (λ a s p. p ∙ ap (λ (xs : List Lit). ltb (word a xs) (word a (take i right))) (take_all i left (omega arith)) ∙ ap (λ (xs : List Lit). ltb (word a left) (word a xs)) (take_all i right (omega arith)))

@@ -148,13 +148,13 @@ pub record Tests (start now : Circuit) (t : Lit) (bits : List Lit) (i : ℕ) : T
   pub clauses : now.clauses ≡ start.clauses ++ rows t (take i bits)
 
 -- before the first bit there is no row
-pub tests_none : (start now : Circuit) (t : Lit) (bits : List Lit) → now.variables ≡ start.variables + 1 → now.clauses ≡ start.clauses → Tests start now t bits 0
-tests_none start now t bits e f = record { variables = e; clauses = f ∙ sym (append-nil start.clauses) }
+pub tests_none : {start now : Circuit} {t : Lit} {bits : List Lit} → now.variables ≡ start.variables + 1 → now.clauses ≡ start.clauses → Tests start now t bits 0
+tests_none {start} e f = record { variables = e; clauses = f ∙ sym (append-nil start.clauses) }
 
 -- one more bit has one more row
-pub tests_more : (start now next : Circuit) (t : Lit) (bits : List Lit) (i : ℕ) (d : Lit) → Tests start now t bits i → i < length bits
+pub tests_more : {start now next : Circuit} {t : Lit} {bits : List Lit} {i : ℕ} (d : Lit) → Tests start now t bits i → i < length bits
     → next.variables ≡ now.variables → next.clauses ≡ now.clauses ++ (negated (get_or bits i d) ∷ t ∷ []) ∷ [] → Tests start next t bits (i + 1)
-tests_more start now next t bits i d h lt e f = record {
+tests_more {start} {t} {bits} {i} d h lt e f = record {
   variables = e ∙ h.variables;
   clauses = f ∙ ap (λ (cs : List (List Lit)). cs ++ (negated (get_or bits i d) ∷ t ∷ []) ∷ []) h.clauses
       ∙ append_assoc start.clauses (rows t (take i bits)) ((negated (get_or bits i d) ∷ t ∷ []) ∷ [])
@@ -163,15 +163,15 @@ tests_more start now next t bits i d h lt e f = record {
 }
 
 -- after all bits the long clause ends the test
-pub tests_all : (start now next : Circuit) (t : Lit) (bits : List Lit) (i : ℕ) → Tests start now t bits i → length bits ≤ i → t.0 ≡ 2 * start.variables → AreLits start bits
+pub tests_all : {start now next : Circuit} {t : Lit} {bits : List Lit} {i : ℕ} → Tests start now t bits i → length bits ≤ i → t.0 ≡ 2 * start.variables → AreLits start bits
     → next.variables ≡ now.variables → next.clauses ≡ now.clauses ++ (negated t ∷ bits) ∷ [] → next.spent ≡ start.spent
     → Makes start next 1 (length bits + 1) (λ a. value a t ≡ not (eqb (word a bits) 0))
-tests_all start now next t bits i h le at all e f working =
+tests_all {start} {next} {t} {bits} {i} h le at all e f working =
     truth_test_makes start next t bits at (e ∙ h.variables) all
     (f ∙ ap (λ (cs : List (List Lit)). cs ++ (negated t ∷ bits) ∷ []) (h.clauses ∙ ap (λ (xs : List Lit). start.clauses ++ rows t xs) (take_all i bits le)))
     working
 
 -- the long clause is over the variables
-pub long_clause : (n : ℕ) (t : Lit) (bits : List Lit) → variable_of t < n → All (λ lit. variable_of lit < n) bits → All (λ lit. variable_of lit < n) (negated t ∷ bits)
-long_clause n t bits h all zero d lt = omega (arith, variable_of-negated t)
-long_clause n t bits h all (suc k) d lt = all k d (omega arith)
+pub long_clause : {n : ℕ} (t : Lit) (bits : List Lit) → variable_of t < n → All (λ lit. variable_of lit < n) bits → All (λ lit. variable_of lit < n) (negated t ∷ bits)
+long_clause t bits h all zero d lt = omega (arith, variable_of-negated t)
+long_clause t bits h all (suc k) d lt = all k d (omega arith)

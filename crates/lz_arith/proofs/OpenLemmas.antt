@@ -35,9 +35,9 @@ open_none on off bits = record {
 }
 
 -- one more literal, which is not the true one
-pub open_more : (on off lit : Lit) (bits open_ next : List Lit) (i : ℕ) (d : Lit) → KeepsTest on off (take i bits) open_ → i < length bits → lit ≡ get_or bits i d
+pub open_more : {on off lit : Lit} (bits : List Lit) {open_ next : List Lit} {i : ℕ} (d : Lit) → KeepsTest on off (take i bits) open_ → i < length bits → lit ≡ get_or bits i d
     → next ≡ cond (eqb lit.0 off.0) open_ (open_ ++ lit ∷ []) → KeepsTest on off (take (i + 1) bits) next
-open_more on off lit bits open_ next i d h lt e f =
+open_more {on} {off} {lit} bits {open_} {next} {i} d h lt e f =
     subst (λ (xs : List Lit). KeepsTest on off xs next) (sym (take_more bits i d lt ∙ ap (λ (x : Lit). take i bits ++ x ∷ []) (sym e)))
     (subst (λ (xs : List Lit). KeepsTest on off (take i bits ++ lit ∷ []) xs) (sym f) (by (eqb lit.0 off.0) refl))
   where
@@ -61,13 +61,13 @@ open_more on off lit bits open_ next i d h lt e f =
     }
 
 -- after all literals the open ones decide the test
-pub open_all : (on off : Lit) (bits open_ : List Lit) (i : ℕ) → KeepsTest on off (take i bits) open_ → length bits ≤ i → KeepsTest on off bits open_
-open_all on off bits open_ i h le = subst (λ (xs : List Lit). KeepsTest on off xs open_) (take_all i bits le) h
+pub open_all : {on off : Lit} {bits open_ : List Lit} {i : ℕ} → KeepsTest on off (take i bits) open_ → length bits ≤ i → KeepsTest on off bits open_
+open_all {on} {off} {bits} {open_} {i} h le = subst (λ (xs : List Lit). KeepsTest on off xs open_) (take_all i bits le) h
 
 -- the true one alone
-pub open_true : (on off lit : Lit) (bits open_ : List Lit) (i : ℕ) (d : Lit) → i < length bits → lit ≡ get_or bits i d → lit.0 ≡ on.0 → open_ ≡ copies 1 on → KeepsTest on off bits open_
+pub open_true : {on off lit : Lit} {bits open_ : List Lit} {i : ℕ} (d : Lit) → i < length bits → lit ≡ get_or bits i d → lit.0 ≡ on.0 → open_ ≡ copies 1 on → KeepsTest on off bits open_
 unfolding clause_value
-open_true on off lit bits open_ i d lt e same f = subst (λ (xs : List Lit). KeepsTest on off bits xs) (sym f) (record {
+open_true {on} {off} {lit} {bits} {i} d lt e same f = subst (λ (xs : List Lit). KeepsTest on off bits xs) (sym f) (record {
   says = λ a t n. or-false (value a on) ∙ t ∙ sym (clause_holds a bits i d lt (ap (value a) (sym e) ∙ value-same a lit on same ∙ t));
   within = λ circuit t all. one circuit t;
   few = omega arith;
@@ -93,31 +93,31 @@ clause_single a (x ∷ []) d e = or-false (value a x)
 clause_single a (x ∷ y ∷ ys) d e = absurd (omega arith)
 
 -- no open literal: the test is false
-pub test_none : (circuit : Circuit) (on off : Lit) (bits open_ held : List Lit) → ((a : Assignment) → Satisfies a circuit.clauses → value a on ≡ true) → ((a : Assignment) → Satisfies a circuit.clauses → value a off ≡ false)
+pub test_none : {circuit : Circuit} {on off : Lit} {bits open_ held : List Lit} → ((a : Assignment) → Satisfies a circuit.clauses → value a on ≡ true) → ((a : Assignment) → Satisfies a circuit.clauses → value a off ≡ false)
     → KeepsTest on off bits open_ → held ≡ open_ → length held ≡ 0 → Makes circuit circuit 1 (length bits + 1) (λ a. value a off ≡ not (eqb (word a bits) 0))
-test_none circuit on off bits open_ held on_true off_false h e z =
+test_none {circuit} {off} {bits} {open_} on_true off_false h e z =
     makes_so circuit circuit 0 1 0 (length bits + 1) _ _ (makes_same circuit (λ a. value a off ≡ clause_value a bits)
     (λ a s. off_false a s ∙ sym (clause_empty a open_ (ap (λ (xs : List Lit). length xs) (sym e) ∙ z)) ∙ h.says a (on_true a s) (off_false a s)))
     (omega arith) (omega arith) (λ a s p. p ∙ clause_word a bits)
 
 -- one open literal: the test is that literal
-pub test_one : (circuit : Circuit) (on off lit : Lit) (bits open_ held : List Lit) (d : Lit) → ((a : Assignment) → Satisfies a circuit.clauses → value a on ≡ true) → ((a : Assignment) → Satisfies a circuit.clauses → value a off ≡ false)
+pub test_one : {circuit : Circuit} {on off lit : Lit} {bits open_ held : List Lit} (d : Lit) → ((a : Assignment) → Satisfies a circuit.clauses → value a on ≡ true) → ((a : Assignment) → Satisfies a circuit.clauses → value a off ≡ false)
     → KeepsTest on off bits open_ → held ≡ open_ → length held ≡ 1 → lit ≡ get_or held 0 d → Makes circuit circuit 1 (length bits + 1) (λ a. value a lit ≡ not (eqb (word a bits) 0))
-test_one circuit on off lit bits open_ held d on_true off_false h e z is =
+test_one {circuit} {lit} {bits} {held} d on_true off_false h e z is =
     makes_so circuit circuit 0 1 0 (length bits + 1) _ _ (makes_same circuit (λ a. value a lit ≡ clause_value a bits)
     (λ a s. ap (value a) is ∙ sym (clause_single a held d z) ∙ ap (clause_value a) e ∙ h.says a (on_true a s) (off_false a s)))
     (omega arith) (omega arith) (λ a s p. p ∙ clause_word a bits)
 
 -- more open literals: the test of these
-pub test_more : (old new : Circuit) (on off test : Lit) (bits open_ held : List Lit) → ((a : Assignment) → Satisfies a old.clauses → value a on ≡ true) → ((a : Assignment) → Satisfies a old.clauses → value a off ≡ false)
+pub test_more : {old new : Circuit} {on off : Lit} (test : Lit) {bits open_ held : List Lit} → ((a : Assignment) → Satisfies a old.clauses → value a on ≡ true) → ((a : Assignment) → Satisfies a old.clauses → value a off ≡ false)
     → KeepsTest on off bits open_ → held ≡ open_ → Makes old new 1 (length held + 1) (λ a. value a test ≡ not (eqb (word a held) 0))
     → Makes old new 1 (length bits + 1) (λ a. value a test ≡ not (eqb (word a bits) 0))
-test_more old new on off test bits open_ held on_true off_false h e made =
+test_more {old} {new} test {bits} {held} on_true off_false h e made =
     makes_so old new 1 1 (length held + 1) (length bits + 1) _ _ made (omega arith) (omega (arith, h.few, ap (λ (xs : List Lit). length xs) e))
     (λ a s p.
     let before = still old new made.extends a s in
     p ∙ sym (clause_word a held) ∙ ap (clause_value a) e ∙ h.says a (on_true a before) (off_false a before) ∙ clause_word a bits)
 
 -- the open literals are of the circuit
-pub open_in : (circuit : Circuit) (on off : Lit) (bits open_ held : List Lit) → KeepsTest on off bits open_ → held ≡ open_ → IsLit circuit on → AreLits circuit bits → AreLits circuit held
-open_in circuit on off bits open_ held h e t all = subst (λ (xs : List Lit). AreLits circuit xs) (sym e) (h.within circuit t all)
+pub open_in : (circuit : Circuit) {on off : Lit} {bits open_ held : List Lit} → KeepsTest on off bits open_ → held ≡ open_ → IsLit circuit on → AreLits circuit bits → AreLits circuit held
+open_in circuit h e t all = subst (λ (xs : List Lit). AreLits circuit xs) (sym e) (h.within circuit t all)

@@ -34,12 +34,12 @@ row_step false s x p m k o e f g = ap (λ (n : ℕ). n % p) (none s k o m x f g)
     none s k o m x h l = omega arith
 
 -- the circuits of a row add it to the sum
-pub row_makes : (one two three : Circuit) (digit off : Lit) (place : ℕ) (left moved masked sum r : List Lit)
+pub row_makes : {one two three : Circuit} (digit off : Lit) {place : ℕ} (left : List Lit) {moved : List Lit} (masked sum r : List Lit)
     → ((a : Assignment) → Satisfies a one.clauses → value a off ≡ false) → place ≤ length left → moved ≡ copies place off ++ take (length left - place) left → length moved ≡ length left → length sum ≡ length left
     → Makes one two (length moved) (3 * length moved) (λ a. word a masked ≡ bit (value a digit) * word a moved)
     → Makes two three (3 * length sum) (14 * length sum) (λ a. word a r ≡ (word a sum + word a masked + bit (value a off)) % 2 ^ length sum)
     → Makes one three (4 * length left) (17 * length left) (λ a. word a r ≡ (word a sum + bit (value a digit) * (word a left * 2 ^ place)) % 2 ^ length left)
-row_makes one two three digit off place left moved masked sum r off_false le is wide wide_sum h k =
+row_makes {one} {two} {three} digit off {place} left {moved} masked sum r off_false le is wide wide_sum h k =
     makes_so one three (length moved + 3 * length sum) (4 * length left) (3 * length moved + 14 * length sum) (17 * length left)
     (λ a. (word a masked ≡ bit (value a digit) * word a moved) × (word a r ≡ (word a sum + word a masked + bit (value a off)) % 2 ^ length sum)) _
     (makes_then one two three (length moved) (3 * length sum) (3 * length moved) (14 * length sum) _ _ _ h k (λ a p q. (p, q)))
@@ -65,10 +65,10 @@ zero_mod l zero = grind arith
 zero_mod l (suc p) = grind arith
 
 -- before the first row the sum is 0
-pub multiplies_none : (start : Circuit) (left right sum : List Lit) (off : Lit) → AreLits start left → AreLits start right → AreBits start (length left) sum → sum ≡ copies (length left) off
+pub multiplies_none : (start : Circuit) {left right sum : List Lit} (off : Lit) → AreLits start left → AreLits start right → AreBits start (length left) sum → sum ≡ copies (length left) off
     → ((a : Assignment) → Satisfies a start.clauses → value a off ≡ false) → Multiplies start start left right sum 0
 unfolding word
-multiplies_none start left right sum off hl hr hs is off_false = record {
+multiplies_none start {left} {sum} off hl hr hs is off_false = record {
   lefts = hl;
   rights = hr;
   sum_in = hs;
@@ -89,11 +89,11 @@ product_step false l r k p s e = ap (λ (n : ℕ). (n + 0 * (l * k)) % p) e ∙ 
     spread l r k = grind arith
 
 -- one more row multiplies by one more bit
-pub multiplies_more : (start now next : Circuit) (left right sum r : List Lit) (i : ℕ) (d : Lit) → Multiplies start now left right sum i → i < length right
+pub multiplies_more : {start now next : Circuit} {left right sum r : List Lit} {i : ℕ} (d : Lit) → Multiplies start now left right sum i → i < length right
     → AreBits next (length left) r
     → Makes now next (4 * length left) (17 * length left) (λ a. word a r ≡ (word a sum + bit (value a (get_or right i d)) * (word a left * 2 ^ i)) % 2 ^ length left)
     → Multiplies start next left right r (i + 1)
-multiplies_more start now next left right sum r i d h lt r_in made = record {
+multiplies_more {start} {now} {next} {left} {right} {sum} {r} {i} d h lt r_in made = record {
   lefts = are_lits_more now next left made.extends.more h.lefts;
   rights = are_lits_more now next right made.extends.more h.rights;
   sum_in = r_in;
@@ -106,9 +106,9 @@ multiplies_more start now next left right sum r i d h lt r_in made = record {
 }
 
 -- after all rows the sum is the product
-pub multiplies_all : (start now : Circuit) (left right sum : List Lit) (i : ℕ) → Multiplies start now left right sum i → i ≡ length left → i ≡ length right
+pub multiplies_all : {start now : Circuit} {left right sum : List Lit} {i : ℕ} → Multiplies start now left right sum i → i ≡ length left → i ≡ length right
     → Makes start now (4 * length left * length left) (17 * length left * length left) (λ a. word a sum ≡ (word a left * word a right) % 2 ^ length left)
-multiplies_all start now left right sum i h e f =
+multiplies_all {start} {now} {left} {right} {i} h e f =
     makes_so start now (4 * length left * i) (4 * length left * length left) (17 * length left * i) (17 * length left * length left) _ _ h.made
     (mul-le-mul_left (4 * length left) (omega arith)) (mul-le-mul_left (17 * length left) (omega arith))
     (λ a s p. p ∙ ap (λ (xs : List Lit). (word a left * word a xs) % 2 ^ length left) (take_all i right (omega arith)))

@@ -14,20 +14,20 @@ use Rattle.lz_arith.proofs.NumbersLemmas.{negative}
 use Rattle.lz_arith.proofs.SignsLemmas.{word_small, top_is, quotient_number, remainder_number}
 
 -- without sign
-pub plain_quotient_makes : (old new : Circuit) (left divisor q r : List Lit) → length left ≡ 32
+pub plain_quotient_makes : {old new : Circuit} (left divisor q r : List Lit) → length left ≡ 32
     → Makes old new ((4 * length left + 3) * length left) ((20 * length left + 14) * length left)
     (λ a. 0 < word a divisor → (word a q ≡ word a left / word a divisor) × (word a r ≡ word a left % word a divisor))
     → Makes old new division_variables division_clauses (λ a. 0 < word a divisor → word a q ≡ wrapped (int_div (signed Unsigned (word a left)) (signed Unsigned (word a divisor))))
-plain_quotient_makes old new left divisor q r e h =
+plain_quotient_makes {old} {new} left divisor q r e h =
     makes_so old new ((4 * length left + 3) * length left) division_variables ((20 * length left + 14) * length left) division_clauses _ _ h (rw e (omega arith)) (rw e (omega arith))
     (λ a s p some. (p some).0 ∙ sym (small_mod (word a left / word a divisor) value_bound (omega (arith, div-le_self (word a left) (word a divisor), word_small a left e))))
 
 -- without sign the rest is the remainder
-pub plain_remainder_makes : (old new : Circuit) (left divisor q r : List Lit) → length left ≡ 32
+pub plain_remainder_makes : {old new : Circuit} (left divisor q r : List Lit) → length left ≡ 32
     → Makes old new ((4 * length left + 3) * length left) ((20 * length left + 14) * length left)
     (λ a. 0 < word a divisor → (word a q ≡ word a left / word a divisor) × (word a r ≡ word a left % word a divisor))
     → Makes old new division_variables division_clauses (λ a. 0 < word a divisor → word a r ≡ wrapped (int_rem (signed Unsigned (word a left)) (signed Unsigned (word a divisor))))
-plain_remainder_makes old new left divisor q r e h =
+plain_remainder_makes {old} {new} left divisor q r e h =
     makes_so old new ((4 * length left + 3) * length left) division_variables ((20 * length left + 14) * length left) division_clauses _ _ h (rw e (omega arith)) (rw e (omega arith))
     (λ a s p some. (p some).1 ∙ sym (small_mod (word a left % word a divisor) value_bound (omega (arith, mod-le (word a left) (word a divisor), word_small a left e))))
 
@@ -54,7 +54,7 @@ divided_makes old new size by held_size held_by q r e f long h =
     (subst (λ (xs : List Lit). 0 < word a held_by → (word a q ≡ word a xs / word a held_by) × (word a r ≡ word a xs % word a held_by)) e p))
 
 -- by sizes, with the sign of both
-pub signed_quotient_makes : (one two three four five six : Circuit) (left divisor size by held_size held_by q rest held r : List Lit) (sign d e : Lit)
+pub signed_quotient_makes : {one two three four five six : Circuit} (left divisor : List Lit) {size by held_size held_by q : List Lit} (rest : List Lit) {held : List Lit} (r : List Lit) (sign d e : Lit)
     → length left ≡ 32 → length divisor ≡ 32 → held_size ≡ size → held_by ≡ by → length held_size ≡ 32 → held ≡ q → length held ≡ 32
     → Makes one two (4 * length left) (20 * length left) (λ a. word a size ≡ cond (value a (get_or left 31 d)) ((2 ^ length left - word a left) % 2 ^ length left) (word a left))
     → Makes two three (4 * length divisor) (20 * length divisor) (λ a. word a by ≡ cond (value a (get_or divisor 31 e)) ((2 ^ length divisor - word a divisor) % 2 ^ length divisor) (word a divisor))
@@ -63,7 +63,7 @@ pub signed_quotient_makes : (one two three four five six : Circuit) (left diviso
     → Makes four five 1 4 (λ a. value a sign ≡ xor (value a (get_or left 31 d)) (value a (get_or divisor 31 e)))
     → Makes five six (4 * length held) (20 * length held) (λ a. word a r ≡ cond (value a sign) ((2 ^ length held - word a held) % 2 ^ length held) (word a held))
     → Makes one six division_variables division_clauses (λ a. 0 < word a divisor → word a r ≡ wrapped (int_div (signed Int (word a left)) (signed Int (word a divisor))))
-signed_quotient_makes one two three four five six left divisor size by held_size held_by q rest held r sign d e ll ld hs hb hl hq lq h k l m n =
+signed_quotient_makes {one} {two} {three} {four} {five} {six} left divisor {size} {by} {held_size} {held_by} {q} rest {held} r sign d e ll ld hs hb hl hq lq h k l m n =
     makes_so one six (128 + 128 + 4192 + 1 + 128) division_variables (640 + 640 + 20928 + 4 + 640) division_clauses _ _
     (makes_then one five six (128 + 128 + 4192 + 1) 128 (640 + 640 + 20928 + 4) 640 _ _
     (λ a. Sizes a × (0 < word a by → (word a q ≡ word a size / word a by) × (word a rest ≡ word a size % word a by)) × (value a sign ≡ xor (value a (get_or left 31 d)) (value a (get_or divisor 31 e))) × Turned sign held r a)
@@ -90,7 +90,7 @@ signed_quotient_makes one two three four five six left divisor size by held_size
     Sizes a = Turned (get_or left 31 d) left size a × Turned (get_or divisor 31 e) divisor by a
 
 -- by sizes, with the sign of the left word
-pub signed_remainder_makes : (one two three four five : Circuit) (left divisor size by held_size held_by q rest held r : List Lit) (d e : Lit)
+pub signed_remainder_makes : {one two three four five : Circuit} (left divisor : List Lit) {size by held_size held_by : List Lit} (q : List Lit) {rest held : List Lit} (r : List Lit) (d e : Lit)
     → length left ≡ 32 → length divisor ≡ 32 → held_size ≡ size → held_by ≡ by → length held_size ≡ 32 → held ≡ rest → length held ≡ 32
     → Makes one two (4 * length left) (20 * length left) (λ a. word a size ≡ cond (value a (get_or left 31 d)) ((2 ^ length left - word a left) % 2 ^ length left) (word a left))
     → Makes two three (4 * length divisor) (20 * length divisor) (λ a. word a by ≡ cond (value a (get_or divisor 31 e)) ((2 ^ length divisor - word a divisor) % 2 ^ length divisor) (word a divisor))
@@ -98,7 +98,7 @@ pub signed_remainder_makes : (one two three four five : Circuit) (left divisor s
     (λ a. 0 < word a held_by → (word a q ≡ word a held_size / word a held_by) × (word a rest ≡ word a held_size % word a held_by))
     → Makes four five (4 * length held) (20 * length held) (λ a. word a r ≡ cond (value a (get_or left 31 d)) ((2 ^ length held - word a held) % 2 ^ length held) (word a held))
     → Makes one five division_variables division_clauses (λ a. 0 < word a divisor → word a r ≡ wrapped (int_rem (signed Int (word a left)) (signed Int (word a divisor))))
-signed_remainder_makes one two three four five left divisor size by held_size held_by q rest held r d e ll ld hs hb hl hq lq h k l n =
+signed_remainder_makes {one} {two} {three} {four} {five} left divisor {size} {by} {held_size} {held_by} q {rest} {held} r d e ll ld hs hb hl hq lq h k l n =
     makes_so one five (128 + 128 + 4192 + 128) division_variables (640 + 640 + 20928 + 640) division_clauses _ _
     (makes_then one four five (128 + 128 + 4192) 128 (640 + 640 + 20928) 640 _ _
     (λ a. Turned (get_or left 31 d) left size a × Turned (get_or divisor 31 e) divisor by a × (0 < word a by → (word a q ≡ word a size / word a by) × (word a rest ≡ word a size % word a by)) × Turned (get_or left 31 d) held r a)
@@ -120,11 +120,11 @@ signed_remainder_makes one two three four five left divisor size by held_size he
     (subst (λ (xs : List Lit). word a r ≡ cond (value a (get_or left 31 d)) ((value_bound - word a xs) % value_bound) (word a xs)) hq p.3)))
 
 -- the word where the divisor is not 0
-pub unless_zero_makes : (one two three : Circuit) (divisor bits r : List Lit) (test : Lit) → length divisor ≡ 32 → length bits ≡ 32
+pub unless_zero_makes : {one two three : Circuit} (divisor bits r : List Lit) (test : Lit) → length divisor ≡ 32 → length bits ≡ 32
     → Makes one two 1 (length divisor + 1) (λ a. value a test ≡ not (eqb (word a divisor) 0))
     → Makes two three (length bits) (3 * length bits) (λ a. word a r ≡ bit (value a test) * word a bits)
     → Makes one three 33 129 (λ a. word a r ≡ cond (eqb (word a divisor) 0) 0 (word a bits))
-unless_zero_makes one two three divisor bits r test ld lb h k =
+unless_zero_makes {one} {two} {three} divisor bits r test ld lb h k =
     makes_so one three (1 + length bits) 33 (length divisor + 1 + 3 * length bits) 129 _ _
     (makes_then one two three 1 (length bits) (length divisor + 1) (3 * length bits) _ _ (λ a. word a r ≡ cond (eqb (word a divisor) 0) 0 (word a bits)) h k
     (λ a p q. q ∙ ap (λ (b : Bool). bit b * word a bits) p ∙ by (eqb (word a divisor) 0) (word a bits)))
@@ -135,11 +135,11 @@ unless_zero_makes one two three divisor bits r test ld lb h k =
     by false w = omega arith
 
 -- and 0 where it is 0
-pub masked_makes : (one two three : Circuit) (divisor bits held r : List Lit) (W : Assignment → ℕ) → held ≡ bits
+pub masked_makes : {one two three : Circuit} (divisor : List Lit) {bits held : List Lit} (r : List Lit) (W : Assignment → ℕ) → held ≡ bits
     → Makes one two division_variables division_clauses (λ a. 0 < word a divisor → word a bits ≡ W a)
     → Makes two three 33 129 (λ a. word a r ≡ cond (eqb (word a divisor) 0) 0 (word a held))
     → Makes one three 4610 22981 (λ a. word a r ≡ cond (eqb (word a divisor) 0) 0 (W a))
-masked_makes one two three divisor bits held r W e h k =
+masked_makes {one} {two} {three} divisor {bits} r W e h k =
     makes_then one two three division_variables 33 division_clauses 129 _ _ (λ a. word a r ≡ cond (eqb (word a divisor) 0) 0 (W a)) h k
     (λ a p q. q ∙ ap (λ (xs : List Lit). cond (eqb (word a divisor) 0) 0 (word a xs)) e ∙ by (word a divisor) (word a bits) (W a) p)
   where

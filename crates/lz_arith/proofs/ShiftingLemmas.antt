@@ -107,8 +107,8 @@ stage_makes old new test off by n v c bits moved r off_false le is wide h =
     (ap (word a) is ∙ word_moved a off by bits (off_false a (still old new h.extends a s)) le ∙ ap (λ (m : ℕ). (word a bits * 2 ^ by) % 2 ^ m) wide))
 
 -- a word moved up is a word of the circuit
-pub moved_bits : (circuit : Circuit) (off : Lit) (k : ℕ) (xs ys : List Lit) → IsLit circuit off → AreLits circuit xs → k ≤ length xs → ys ≡ copies k off ++ take (length xs - k) xs → AreBits circuit (length xs) ys
-moved_bits circuit off k xs ys h all le is = record {
+pub moved_bits : (circuit : Circuit) (off : Lit) {k : ℕ} (xs : List Lit) {ys : List Lit} → IsLit circuit off → AreLits circuit xs → k ≤ length xs → ys ≡ copies k off ++ take (length xs - k) xs → AreBits circuit (length xs) ys
+moved_bits circuit off {k} xs h all le is = record {
   length = ap (λ (zs : List Lit). length zs) is ∙ length-moved off k xs le;
   lits = subst (λ (zs : List Lit). AreLits circuit zs) (sym is) (moved_in circuit off k xs h all);
 }
@@ -118,8 +118,8 @@ pub bits_more : (old new : Circuit) (n : ℕ) (xs : List Lit) → old.variables 
 bits_more old new n xs le h = record { length = h.length; lits = are_lits_more old new xs le h.lits }
 
 -- so under another name
-pub bits_of : (circuit : Circuit) (n m : ℕ) (xs ys : List Lit) → n ≡ m → ys ≡ xs → AreBits circuit n xs → AreBits circuit m ys
-bits_of circuit n m xs ys e f h = record {
+pub bits_of : {circuit : Circuit} {n m : ℕ} {xs ys : List Lit} → n ≡ m → ys ≡ xs → AreBits circuit n xs → AreBits circuit m ys
+bits_of {circuit} e f h = record {
   length = ap (λ (zs : List Lit). length zs) f ∙ h.length ∙ e;
   lits = subst (λ (zs : List Lit). AreLits circuit zs) (sym f) h.lits;
 }

@@ -24,8 +24,8 @@ pub drop_in : (circuit : Circuit) (n : ℕ) (xs : List Lit) → AreLits circuit 
 drop_in circuit n xs h = All-drop (IsLit circuit) n xs h
 
 -- a word moved down is a word of the circuit
-pub down_bits : (circuit : Circuit) (fill : Lit) (k : ℕ) (xs ys : List Lit) → IsLit circuit fill → AreLits circuit xs → k ≤ length xs → ys ≡ drop k xs ++ copies k fill → AreBits circuit (length xs) ys
-down_bits circuit fill k xs ys h all le is = record {
+pub down_bits : (circuit : Circuit) (fill : Lit) {k : ℕ} (xs : List Lit) {ys : List Lit} → IsLit circuit fill → AreLits circuit xs → k ≤ length xs → ys ≡ drop k xs ++ copies k fill → AreBits circuit (length xs) ys
+down_bits circuit fill {k} xs h all le is = record {
   length = ap (λ (zs : List Lit). length zs) is ∙ length-append (drop k xs) (copies k fill) ∙ (let p = length-drop k xs in let q = length-copies k fill in omega arith);
   lits = subst (λ (zs : List Lit). AreLits circuit zs) (sym is) (append_in circuit (drop k xs) (copies k fill) (drop_in circuit k xs all) (copies_in circuit k fill h));
 }
@@ -114,20 +114,20 @@ down_by_none bound false w lt = div-one w
 -- ---- one stage
 
 -- a stage down moves down where its test is true
-pub stage_down_makes : (old new : Circuit) (test fill : Lit) (by : ℕ) (bits held r : List Lit)
+pub stage_down_makes : {old new : Circuit} (test fill : Lit) {by : ℕ} (bits : List Lit) {held : List Lit} (r : List Lit)
     → by ≤ length bits → held ≡ drop by bits ++ copies by fill → length held ≡ length bits
     → Makes old new (length held) (6 * length held) (λ a. word a r ≡ cond (value a test) (word a held) (word a bits))
     → Makes old new (length bits) (6 * length bits) (λ a. word a r ≡ cond (value a test) (moved_down (2 ^ length bits) (value a fill) (word a bits) by) (word a bits))
-stage_down_makes old new test fill by bits held r le is long h =
+stage_down_makes {old} {new} test fill {by} bits {held} r le is long h =
     makes_so old new (length held) (length bits) (6 * length held) (6 * length bits) _ _ h (omega arith) (omega arith)
     (λ a s p. p ∙ ap (λ (m : ℕ). cond (value a test) m (word a bits)) (ap (word a) is ∙ word_down_filled a fill by bits le))
 
 -- a stage up moves up where its test is true
-pub stage_up_makes : (old new : Circuit) (test off : Lit) (by : ℕ) (bits held r : List Lit)
+pub stage_up_makes : {old new : Circuit} (test off : Lit) {by : ℕ} (bits : List Lit) {held : List Lit} (r : List Lit)
     → ((a : Assignment) → Satisfies a old.clauses → value a off ≡ false) → by ≤ length bits → held ≡ copies by off ++ take (length bits - by) bits → length held ≡ length bits
     → Makes old new (length held) (6 * length held) (λ a. word a r ≡ cond (value a test) (word a held) (word a bits))
     → Makes old new (length bits) (6 * length bits) (λ a. word a r ≡ cond (value a test) (moved_up (2 ^ length bits) (word a bits) by) (word a bits))
-stage_up_makes old new test off by bits held r off_false le is long h =
+stage_up_makes {old} {new} test off {by} bits {held} r off_false le is long h =
     makes_so old new (length held) (length bits) (6 * length held) (6 * length bits) _ _ h (omega arith) (omega arith)
     (λ a s p. p ∙ ap (λ (m : ℕ). cond (value a test) m (word a bits)) (ap (word a) is ∙ word_moved a off by bits (off_false a (still old new h.extends a s)) le))
 
@@ -146,9 +146,9 @@ pub record IsMove (S : Assignment → ℕ → ℕ → ℕ) (bound : ℕ) : Type 
   pub none : (a : Assignment) (w : ℕ) → w < bound → S a w 0 ≡ w
 
 -- before the first stage nothing is moved
-pub shifts_none : (start : Circuit) (S : Assignment → ℕ → ℕ → ℕ) (bits amount moved : List Lit) → IsMove S (2 ^ length bits) → AreLits start bits → AreLits start amount → moved ≡ bits → Shifts start start S bits amount moved 1 0
+pub shifts_none : {start : Circuit} (S : Assignment → ℕ → ℕ → ℕ) {bits amount moved : List Lit} → IsMove S (2 ^ length bits) → AreLits start bits → AreLits start amount → moved ≡ bits → Shifts start start S bits amount moved 1 0
 unfolding word
-shifts_none start S bits amount moved move h k is = record {
+shifts_none {start} S {bits} {moved} move h k is = record {
   amount_in = k;
   moved_in = record { length = ap (λ (xs : List Lit). length xs) is; lits = subst (λ (xs : List Lit). AreLits start xs) (sym is) h };
   by_is = refl;
@@ -191,19 +191,19 @@ shifts_more start now next S bits amount moved held r by i d move h lt is r_in m
     }
 
 -- with the lists that were lent
-pub shifts_turn : (start now next : Circuit) (T : ℕ → Assignment → ℕ → ℕ → ℕ) (bits amount moved held r : List Lit) (by i : ℕ) (d : Lit) → IsMove (T (length bits)) (2 ^ length bits)
+pub shifts_turn : {start now next : Circuit} (T : ℕ → Assignment → ℕ → ℕ → ℕ) {bits amount moved held r : List Lit} {by i : ℕ} (d : Lit) → IsMove (T (length bits)) (2 ^ length bits)
     → Shifts start now (T (length bits)) bits amount moved by i → i < length amount → held ≡ moved → AreBits next (length held) r
     → Makes now next (length held) (6 * length held) (λ a. word a r ≡ cond (value a (get_or amount i d)) (T (length held) a (word a held) by) (word a held))
     → Shifts start next (T (length bits)) bits amount r (by * 2) (i + 1)
-shifts_turn start now next T bits amount moved held r by i d move h lt is r_in made =
+shifts_turn {start} {now} {next} T {bits} {amount} {moved} {held} {r} {by} {i} d move h lt is r_in made =
     shifts_more start now next (T (length bits)) bits amount moved held r by i d move h lt is r_in
     (subst (λ (n : ℕ). Makes now next (length held) (6 * length held) (λ a. word a r ≡ cond (value a (get_or amount i d)) (T n a (word a held) by) (word a held)))
     (ap (λ (xs : List Lit). length xs) is ∙ h.moved_in.length) made)
 
 -- after all stages the word is moved by the amount
-pub shifts_all : (start now : Circuit) (S : Assignment → ℕ → ℕ → ℕ) (bits amount moved : List Lit) (by i : ℕ) → Shifts start now S bits amount moved by i → i ≡ length amount
+pub shifts_all : {start now : Circuit} {S : Assignment → ℕ → ℕ → ℕ} {bits amount moved : List Lit} {by i : ℕ} → Shifts start now S bits amount moved by i → i ≡ length amount
     → Makes start now (length bits * length amount) (6 * length bits * length amount) (λ a. word a moved ≡ S a (word a bits) (word a amount))
-shifts_all start now S bits amount moved by i h e =
+shifts_all {start} {now} {S} {bits} {amount} {i} h e =
     makes_so start now (length bits * i) (length bits * length amount) (6 * length bits * i) (6 * length bits * length amount) _ _ h.made
     (mul-le-mul_left (length bits) (omega arith)) (mul-le-mul_left (6 * length bits) (omega arith))
     (λ a s p. p ∙ ap (λ (xs : List Lit). S a (word a bits) (word a xs)) (take_all i amount (omega arith)))

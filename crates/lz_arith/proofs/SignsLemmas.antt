@@ -68,10 +68,10 @@ signed_is n lt = by (ltb n sign_bound) refl
     by false e = rw e (below_zero n lt)
 
 -- the order without sign of the turned words
-pub signed_less_makes : (old new : Circuit) (left right low high : List Lit) (less : Lit) → length left ≡ 32 → length right ≡ 32 → low ≡ top_flipped left → high ≡ top_flipped right → length low ≡ 32
+pub signed_less_makes : {old new : Circuit} (left right : List Lit) {low high : List Lit} (less : Lit) → length left ≡ 32 → length right ≡ 32 → low ≡ top_flipped left → high ≡ top_flipped right → length low ≡ 32
     → Makes old new (2 * length low) (10 * length low) (λ a. value a less ≡ ltb (word a low) (word a high))
     → Makes old new 64 320 (λ a. value a less ≡ lt_z (signed Int (word a left)) (signed Int (word a right)))
-signed_less_makes old new left right low high less ll lr e f long h =
+signed_less_makes {old} {new} left right {low} {high} less ll lr e f long h =
     makes_so old new (2 * length low) 64 (10 * length low) 320 _ _ h (omega arith) (omega arith)
     (λ a s p. p
     ∙ ap (λ (m : ℕ). ltb m (word a high)) (ap (word a) e ∙ word_top_flipped a left 31 ll)

@@ -55,12 +55,12 @@ pub record Tested (nodes : Nodes) (before tested : Circuit) (formula : Cnf) (inp
   pub clauses : formula.clauses ≡ tested.clauses ++ (test ∷ []) ∷ []
 
 -- the last calls come to that
-pub tested_of : (nodes : Nodes) (before tested required : Circuit) (formula : Cnf) (inputs before_words items : List (List Lit)) (held : List Lit) (test : Lit)
+pub tested_of : (nodes : Nodes) {before tested : Circuit} (required : Circuit) {formula : Cnf} {inputs before_words items : List (List Lit)} {held : List Lit} {test : Lit}
     → Stands before inputs before_words nodes.list → AreWellFormed nodes → items ≡ before_words → held ≡ get_or items nodes.fails held
     → Makes before tested 1 (length held + 1) (λ a. value a test ≡ is_true (word a held))
     → required.variables ≡ tested.variables → required.clauses ≡ tested.clauses ++ (test ∷ []) ∷ [] → formula.variables ≡ required.variables → formula.clauses ≡ required.clauses
     → Tested nodes before tested formula inputs before_words held test
-tested_of nodes before tested required formula inputs before_words items held test stands formed lent is made v c e f =
+tested_of nodes {before} {tested} required {before_words} {held} stands formed lent is made v c e f =
     let word_is : held ≡ get_or before_words nodes.fails held = is ∙ ap (λ (xs : List (List Lit)). get_or xs nodes.fails held) lent in
     let place : nodes.fails < length before_words = omega (arith, stands.count, formed.fails) in
     let long : length held ≡ word_width = ap (λ (xs : List Lit). length xs) word_is ∙ (stands.words_in nodes.fails held place).length in
@@ -142,9 +142,9 @@ complete nodes before tested formula inputs before_words held test h ended circu
     )
 
 -- the formula decides whether the node is not 0
-pub decides : (nodes : Nodes) (before tested : Circuit) (formula : Cnf) (inputs before_words : List (List Lit)) (held : List Lit) (test : Lit) → Tested nodes before tested formula inputs before_words held test
+pub decides : (nodes : Nodes) {before tested : Circuit} {formula : Cnf} {inputs before_words : List (List Lit)} {held : List Lit} {test : Lit} → Tested nodes before tested formula inputs before_words held test
     → (ended : Circuit) → IsCircuit ended → ended.variables ≡ formula.variables → ended.clauses ≡ formula.clauses → Decides nodes formula inputs
-decides nodes before tested formula inputs before_words held test h ended circuit same_variables same_clauses = record {
+decides nodes {before} {tested} {formula} {inputs} {before_words} {held} {test} h ended circuit same_variables same_clauses = record {
   sound = sound nodes before tested formula inputs before_words held test h;
   range = λ values i. told_range before inputs values i h.stands.encodes.inputs_in;
   complete = complete nodes before tested formula inputs before_words held test h ended circuit same_variables same_clauses;
@@ -152,9 +152,9 @@ decides nodes before tested formula inputs before_words held test h ended circui
 }
 
 -- with at most as many variables as the weight, and clauses by the weight too
-pub counted : (nodes : Nodes) (before tested : Circuit) (formula : Cnf) (inputs before_words : List (List Lit)) (held : List Lit) (test : Lit) → Tested nodes before tested formula inputs before_words held test
+pub counted : (nodes : Nodes) {before tested : Circuit} {formula : Cnf} {inputs before_words : List (List Lit)} {held : List Lit} {test : Lit} → Tested nodes before tested formula inputs before_words held test
     → (formula.variables ≤ nodes_weight nodes.list) × (length formula.clauses ≤ clauses_per_weight * nodes_weight nodes.list)
-counted nodes before tested formula inputs before_words held test h =
+counted nodes {tested} {formula} {test} h =
     let w = all_weigh nodes.inputs nodes.list h.formed.list (let p = h.formed.fails in omega arith) in
     let variables_ = w.0 in
     let clauses_ = w.1 in

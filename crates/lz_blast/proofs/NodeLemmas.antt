@@ -20,14 +20,14 @@ at_word : (a : Assignment) (before items : List (List Lit)) (of : ℕ) (held : L
 at_word a before items of held e lt is = ap (word a) (is ∙ ap (λ (xs : List (List Lit)). get_or xs of held) e) ∙ sym (words_at a before of held lt)
 
 -- a word that was lent has as many literals as a word has bits
-pub held_long : (circuit : Circuit) (before items : List (List Lit)) (k : ℕ) (held : List Lit) → All (AreBits circuit word_width) before → items ≡ before → k < length before → held ≡ get_or items k held → length held ≡ word_width
-held_long circuit before items k held all e lt is =
+pub held_long : (circuit : Circuit) {before items : List (List Lit)} {k : ℕ} {held : List Lit} → All (AreBits circuit word_width) before → items ≡ before → k < length before → held ≡ get_or items k held → length held ≡ word_width
+held_long circuit {k} {held} all e lt is =
     ap (λ (xs : List Lit). length xs) (is ∙ ap (λ (xs : List (List Lit)). get_or xs k held) e) ∙ (all k held lt).length
 
 -- a constant
-pub adds_constant : (circuit : Circuit) (before after : List (List Lit)) (value_ : ℕ) (w : List Lit) → after ≡ before ++ w ∷ [] → AreBits circuit word_width w
+pub adds_constant : {circuit : Circuit} {before after : List (List Lit)} (value_ : ℕ) {w : List Lit} → after ≡ before ++ w ∷ [] → AreBits circuit word_width w
     → Makes circuit circuit 0 0 (λ a. word a w ≡ value_) → Adds circuit circuit before after (nodes.Constant value_)
-adds_constant circuit before after value_ w e bits h = record {
+adds_constant {circuit} value_ {w} e bits h = record {
   word_ = w;
   after_is = e;
   bits = bits;
@@ -35,10 +35,10 @@ adds_constant circuit before after value_ w e bits h = record {
 }
 
 -- a unary operator
-pub adds_unary : (old new : Circuit) (before items after : List (List Lit)) (op : Unary) (kind : IntType) (of : ℕ) (held w : List Lit) → items ≡ before → of < length before → held ≡ get_or items of held
+pub adds_unary : {old new : Circuit} {before items after : List (List Lit)} (op : Unary) (kind : IntType) {of : ℕ} {held w : List Lit} → items ≡ before → of < length before → held ≡ get_or items of held
     → after ≡ before ++ w ∷ [] → AreBits new word_width w → Makes old new (unary_variables op) (unary_clauses op) (λ a. word a w ≡ unary_value op (word a held) kind)
     → Adds old new before after (nodes.Unary op kind of)
-adds_unary old new before items after op kind of held w lent lt is e bits h = record {
+adds_unary {old} {new} {before} {items} op kind {of} {held} {w} lent lt is e bits h = record {
   word_ = w;
   after_is = e;
   bits = bits;
@@ -47,11 +47,11 @@ adds_unary old new before items after op kind of held w lent lt is e bits h = re
 }
 
 -- a binary operator
-pub adds_binary : (old new : Circuit) (before items after : List (List Lit)) (op : Binary) (kind : IntType) (left right : ℕ) (first second w : List Lit) → items ≡ before → left < length before → right < length before
+pub adds_binary : {old new : Circuit} {before items after : List (List Lit)} (op : Binary) (kind : IntType) {left right : ℕ} {first second w : List Lit} → items ≡ before → left < length before → right < length before
     → first ≡ get_or items left first → second ≡ get_or items right second → after ≡ before ++ w ∷ [] → AreBits new word_width w
     → Makes old new (binary_variables op) (binary_clauses op) (λ a. word a w ≡ binary_value op (word a first) (word a second) kind)
     → Adds old new before after (nodes.Binary op kind left right)
-adds_binary old new before items after op kind left right first second w lent ll lr is_first is_second e bits h = record {
+adds_binary {old} {new} {before} {items} op kind {left} {right} {first} {second} {w} lent ll lr is_first is_second e bits h = record {
   word_ = w;
   after_is = e;
   bits = bits;
@@ -61,10 +61,10 @@ adds_binary old new before items after op kind left right first second w lent ll
 }
 
 -- a conversion
-pub adds_convert : (old new : Circuit) (before items after : List (List Lit)) (from to : IntType) (of : ℕ) (held w : List Lit) → items ≡ before → of < length before → held ≡ get_or items of held
+pub adds_convert : {old new : Circuit} {before items after : List (List Lit)} (from to : IntType) {of : ℕ} {held w : List Lit} → items ≡ before → of < length before → held ≡ get_or items of held
     → after ≡ before ++ w ∷ [] → AreBits new word_width w → Makes old new 0 0 (λ a. word a w ≡ word a held)
     → Adds old new before after (nodes.Convert from to of)
-adds_convert old new before items after from to of held w lent lt is e bits h = record {
+adds_convert {old} {new} {before} {items} from to {of} {held} {w} lent lt is e bits h = record {
   word_ = w;
   after_is = e;
   bits = bits;
@@ -72,13 +72,13 @@ adds_convert old new before items after from to of held w lent lt is e bits h = 
 }
 
 -- a choice
-pub adds_choice : (one two three : Circuit) (before items after : List (List Lit)) (test yes_ no_ : ℕ) (tested first second w : List Lit) (chosen : Lit) → items ≡ before
+pub adds_choice : {one two three : Circuit} {before items after : List (List Lit)} {test yes_ no_ : ℕ} {tested first second w : List Lit} (chosen : Lit) → items ≡ before
     → test < length before → yes_ < length before → no_ < length before → tested ≡ get_or items test tested → first ≡ get_or items yes_ first → second ≡ get_or items no_ second
     → length tested ≡ word_width → length first ≡ word_width → after ≡ before ++ w ∷ [] → AreBits three word_width w
     → Makes one two 1 (length tested + 1) (λ a. value a chosen ≡ is_true (word a tested))
     → Makes two three (length first) (6 * length first) (λ a. word a w ≡ cond (value a chosen) (word a first) (word a second))
     → Adds one three before after (nodes.Choose test yes_ no_)
-adds_choice one two three before items after test yes_ no_ tested first second w chosen lent lt ly ln is_test is_first is_second long long_first e bits h k = record {
+adds_choice {one} {two} {three} {before} {items} {test} {yes_} {no_} {tested} {first} {second} {w} chosen lent lt ly ln is_test is_first is_second long long_first e bits h k = record {
   word_ = w;
   after_is = e;
   bits = bits;

@@ -82,18 +82,18 @@ stands_node old new inputs before after node w list h extends bits e few few_cla
     })
 
 -- a node that is no input
-pub steps_computed : (old new : Circuit) (inputs before after : List (List Lit)) (node : Node) → ((i : ℕ) → IsInput node i → ⊥) → Adds old new before after node → Steps old new inputs inputs before after node
-steps_computed old new inputs before after node none h = record {
+pub steps_computed : {old new : Circuit} {inputs before after : List (List Lit)} {node : Node} → ((i : ℕ) → IsInput node i → ⊥) → Adds old new before after node → Steps old new inputs inputs before after node
+steps_computed {old} {new} {inputs} {before} {after} {node} none h = record {
   stands = λ list s.
       stands_node old new inputs before after node h.word_ list s h.made.extends h.bits h.after_is h.made.variables_most h.made.clauses_most
       (λ v a t r. h.made.says a t v) (λ i is. absurd (none i is));
 }
 
 -- another node of an input
-pub steps_again : (circuit : Circuit) (inputs before after : List (List Lit)) (number : ℕ) (kind : IntType) (w : List Lit) → 0 < length (input_at inputs number) → w ≡ input_at inputs number → after ≡ before ++ w ∷ []
+pub steps_again : (circuit : Circuit) {inputs before after : List (List Lit)} (number : ℕ) (kind : IntType) {w : List Lit} → 0 < length (input_at inputs number) → w ≡ input_at inputs number → after ≡ before ++ w ∷ []
     → Steps circuit circuit inputs inputs before after (nodes.Input number kind)
 unfolding Reads AreInputs
-steps_again circuit inputs before after number kind w some is e = record {
+steps_again circuit {inputs} {before} {after} number kind {w} some is e = record {
   stands = λ list s.
       stands_node circuit circuit inputs before after (nodes.Input number kind) w list s (extends_same circuit)
       (subst (λ (xs : List Lit). AreBits circuit word_width xs) (sym is) (s.encodes.inputs_in number some)) e (omega arith) (omega arith)
@@ -109,10 +109,10 @@ circuit_larger old new le e h = record {
 }
 
 -- the first node of an input
-pub steps_fresh : (old new : Circuit) (inputs inputs_after before after : List (List Lit)) (number : ℕ) (kind : IntType) (w copy : List Lit) → number < length inputs → length (input_at inputs number) ≡ 0
+pub steps_fresh : {old new : Circuit} {inputs inputs_after before after : List (List Lit)} {number : ℕ} (kind : IntType) {w copy : List Lit} → number < length inputs → length (input_at inputs number) ≡ 0
     → new.variables ≡ old.variables + word_width → new.clauses ≡ old.clauses → w ≡ fresh_word old.variables word_width → copy ≡ w → inputs_after ≡ set inputs number copy → after ≡ before ++ w ∷ []
     → Steps old new inputs inputs_after before after (nodes.Input number kind)
-steps_fresh old new inputs inputs_after before after number kind w copy lt none more same is copied set_is e = record {
+steps_fresh {old} {new} {inputs} {before} {after} {number} kind {w} lt none more same is copied set_is e = record {
   stands = λ list s.
       let bits = fresh_bits_in old new w more is in
       let some : 0 < length w = omega (arith, bits.length) in

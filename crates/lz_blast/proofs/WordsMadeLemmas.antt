@@ -32,9 +32,9 @@ known_step : (w p b r half : ℕ) → b + 2 * half ≡ r → w + p * b + p * 2 *
 known_step w p b r half e = let f : p * (b + 2 * half) ≡ p * r = ap (λ (m : ℕ). p * m) e in grind arith
 
 -- one more bit is known
-pub knows_more : (circuit : Circuit) (number : ℕ) (bits : List Lit) (rest i : ℕ) (lit : Lit) → Knows circuit number bits rest i → IsLit circuit lit
+pub knows_more : {circuit : Circuit} {number : ℕ} {bits : List Lit} {rest i : ℕ} (lit : Lit) → Knows circuit number bits rest i → IsLit circuit lit
     → ((a : Assignment) → Satisfies a circuit.clauses → value a lit ≡ eqb (rest % 2) 1) → Knows circuit number (bits ++ lit ∷ []) (rest / 2) (i + 1)
-knows_more circuit number bits rest i lit h lit_in says = record {
+knows_more {circuit} {bits} {rest} {i} lit h lit_in says = record {
   bits_in = record {
     length = length_push bits lit ∙ ap (λ (n : ℕ). n + 1) h.bits_in.length;
     lits = All-push (IsLit circuit) bits lit h.bits_in.lits lit_in;
@@ -51,8 +51,8 @@ none_left : (w r n : ℕ) → w + value_bound * r ≡ n → n < value_bound → 
 none_left w r n e lt = omega arith
 
 -- after these bits the word is the number
-pub knows_all : (circuit : Circuit) (number : ℕ) (bits : List Lit) (rest i : ℕ) → Knows circuit number bits rest i → i ≡ word_width → number < value_bound → Makes circuit circuit 0 0 (λ a. word a bits ≡ number)
-knows_all circuit number bits rest i h e lt = makes_same circuit (λ a. word a bits ≡ number) (λ a s. none_left (word a bits) rest number (ap (λ (k : ℕ). word a bits + 2 ^ k * rest) (sym e) ∙ h.says a s) lt)
+pub knows_all : {circuit : Circuit} {number : ℕ} {bits : List Lit} {rest i : ℕ} → Knows circuit number bits rest i → i ≡ word_width → number < value_bound → Makes circuit circuit 0 0 (λ a. word a bits ≡ number)
+knows_all {circuit} {number} {bits} {rest} h e lt = makes_same circuit (λ a. word a bits ≡ number) (λ a s. none_left (word a bits) rest number (ap (λ (k : ℕ). word a bits + 2 ^ k * rest) (sym e) ∙ h.says a s) lt)
 
 -- so many fresh literals
 pub record Freshens (start now : Circuit) (bits : List Lit) (i : ℕ) : Type 0 where
@@ -72,9 +72,9 @@ pub freshens_none : (start : Circuit) → Freshens start start [] 0
 freshens_none start = record { bits_are = refl; variables = omega arith; clauses = refl }
 
 -- one more
-pub freshens_more : (start now next : Circuit) (bits : List Lit) (lit : Lit) (i : ℕ) → Freshens start now bits i → lit.0 ≡ 2 * now.variables → next.variables ≡ now.variables + 1 → next.clauses ≡ now.clauses
+pub freshens_more : {start now next : Circuit} {bits : List Lit} (lit : Lit) {i : ℕ} → Freshens start now bits i → lit.0 ≡ 2 * now.variables → next.variables ≡ now.variables + 1 → next.clauses ≡ now.clauses
     → Freshens start next (bits ++ lit ∷ []) (i + 1)
-freshens_more start now next bits lit i h e more same = record {
+freshens_more {start} lit {i} h e more same = record {
   bits_are = ap (λ (xs : List Lit). xs ++ lit ∷ []) h.bits_are
       ∙ ap (λ (m : ℕ). fresh_word start.variables i ++ record { 0 = m } ∷ []) (e ∙ ap (λ (m : ℕ). 2 * m) h.variables)
       ∙ fresh_push start.variables i ∙ ap (fresh_word start.variables) (let f : suc i ≡ i + 1 = omega arith in f);

@@ -22,8 +22,8 @@ brings_none start = record {
 }
 
 -- one more
-pub brings_more : (start now next : Circuit) (bits : List Lit) (lit : Lit) (i : ℕ) → Brings start now bits i → IsLit next lit → now.variables ≤ next.variables → next.variables ≤ now.variables + 1 → Brings start next (bits ++ lit ∷ []) (i + 1)
-brings_more start now next bits lit i h lit_in more most =
+pub brings_more : {start now next : Circuit} {bits : List Lit} (lit : Lit) {i : ℕ} → Brings start now bits i → IsLit next lit → now.variables ≤ next.variables → next.variables ≤ now.variables + 1 → Brings start next (bits ++ lit ∷ []) (i + 1)
+brings_more {now} {next} {bits} lit {i} h lit_in more most =
     let before = h.more in
     let least = h.most in
     record {

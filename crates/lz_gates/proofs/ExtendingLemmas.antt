@@ -162,8 +162,8 @@ makes_so old new v w c d P Q h le lf so = record {
 }
 
 -- a gate that is one of the literals so far
-pub makes_folded : (old : Circuit) (first second third : Lit) (count : ℕ) (lit : Lit) (v : Assignment → Bool) → IsCircuit old → IsFold first second third v lit → Makes old old 1 count (λ a. value a lit ≡ v a)
-makes_folded old first second third count lit v circuit fold = record {
+pub makes_folded : {old : Circuit} {first second third : Lit} (count : ℕ) {lit : Lit} {v : Assignment → Bool} → IsCircuit old → IsFold first second third v lit → Makes old old 1 count (λ a. value a lit ≡ v a)
+makes_folded {old} count circuit fold = record {
   extends = extends_same old;
   variables_most = omega arith;
   clauses_most = omega arith;
@@ -171,8 +171,8 @@ makes_folded old first second third count lit v circuit fold = record {
 }
 
 -- a circuit stays one with more variables
-pub is_circuit_fresh : (n m : ℕ) (clauses : List (List Lit)) (f g : Bool) → n ≤ m → IsCircuit (record { variables = n; clauses = clauses; spent = f }) → IsCircuit (record { variables = m; clauses = clauses; spent = g })
-is_circuit_fresh n m clauses f g le c = record {
+pub is_circuit_fresh : {n m : ℕ} (clauses : List (List Lit)) (f g : Bool) → n ≤ m → IsCircuit (record { variables = n; clauses = clauses; spent = f }) → IsCircuit (record { variables = m; clauses = clauses; spent = g })
+is_circuit_fresh {n} {m} clauses f g le c = record {
   some = let p = c.some in omega arith;
   below = below_more n m clauses le c.below;
   truth = c.truth;

@@ -33,8 +33,8 @@ below_two : (n : ℕ) (p q : Lit) → variable_of p < n → variable_of q < n �
 below_two n p q h k = record { some = omega arith; lits = two n p q h k }
 
 -- three literals of variables below n
-below_three : (n : ℕ) (p q r : Lit) → variable_of p < n → variable_of q < n → variable_of r < n → IsBelow n (p ∷ q ∷ r ∷ [])
-below_three n p q r h k l = record { some = omega arith; lits = three n p q r h k l }
+below_three : (n : ℕ) {p q r : Lit} → variable_of p < n → variable_of q < n → variable_of r < n → IsBelow n (p ∷ q ∷ r ∷ [])
+below_three n {p} {q} {r} h k l = record { some = omega arith; lits = three n p q r h k l }
 
 -- ---- and
 
@@ -59,12 +59,12 @@ and_only false false true h k l = refl
 and_only false false false h k l = refl
 
 -- the three clauses make a conjunction
-pub and_makes : (old new : Circuit) (l r g : Lit) → g.0 ≡ 2 * old.variables → new.variables ≡ old.variables + 1 → IsLit old l → IsLit old r
+pub and_makes : {old new : Circuit} (l r g : Lit) → g.0 ≡ 2 * old.variables → new.variables ≡ old.variables + 1 → IsLit old l → IsLit old r
     → new.clauses ≡ ((old.clauses ++ (negated g ∷ l ∷ []) ∷ []) ++ (negated g ∷ r ∷ []) ∷ []) ++ (g ∷ negated l ∷ negated r ∷ []) ∷ []
     → new.spent ≡ old.spent
     → Makes old new 1 3 (λ a. value a g ≡ (value a l && value a r))
 unfolding Satisfies clause_value AreBelow
-and_makes old new l r g at more l_in r_in clauses working =
+and_makes {old} {new} l r g at more l_in r_in clauses working =
     let n = old.variables + 1 in
     let g_n : variable_of g < old.variables + 1 = omega (arith, variable_of-positive g old.variables at) in
     let ng_n : variable_of (negated g) < old.variables + 1 = omega (arith, variable_of-negated g, g_n) in
@@ -73,7 +73,7 @@ and_makes old new l r g at more l_in r_in clauses working =
     gate_makes old new g ((negated g ∷ l ∷ []) ∷ (negated g ∷ r ∷ []) ∷ (g ∷ negated l ∷ negated r ∷ []) ∷ []) 3 (λ a. value a l && value a r)
     at more (clauses ∙ append_assoc (old.clauses ++ (negated g ∷ l ∷ []) ∷ []) ((negated g ∷ r ∷ []) ∷ []) ((g ∷ negated l ∷ negated r ∷ []) ∷ []) ∙ append_assoc old.clauses ((negated g ∷ l ∷ []) ∷ []) ((negated g ∷ r ∷ []) ∷ (g ∷ negated l ∷ negated r ∷ []) ∷ []))
     (omega arith)
-    (below_two n _ _ ng_n (omega arith), (below_two n _ _ ng_n (omega arith), (below_three n _ _ _ g_n nl_n nr_n, tt)))
+    (below_two n _ _ ng_n (omega arith), (below_two n _ _ ng_n (omega arith), (below_three n g_n nl_n nr_n, tt)))
     (λ a b same. ap (λ (x : Bool). x && value a r) (value_agrees old.variables a b l same l_in) ∙ ap (λ (x : Bool). value b l && x) (value_agrees old.variables a b r same r_in))
     (λ a e. rw (value-negated a g, value-negated a l, value-negated a r) (and_holds (value a g) (value a l) (value a r) e))
     (λ a s. let t = rw (value-negated a g, value-negated a l, value-negated a r) at s in and_only (value a g) (value a l) (value a r) t.0 t.1.0 t.1.1.0) working
@@ -103,12 +103,12 @@ xor_only false false true h k l m = cc
 xor_only false false false h k l m = refl
 
 -- the four clauses make a difference
-pub xor_makes : (old new : Circuit) (l r g : Lit) → g.0 ≡ 2 * old.variables → new.variables ≡ old.variables + 1 → IsLit old l → IsLit old r
+pub xor_makes : {old new : Circuit} (l r g : Lit) → g.0 ≡ 2 * old.variables → new.variables ≡ old.variables + 1 → IsLit old l → IsLit old r
     → new.clauses ≡ (((old.clauses ++ (negated g ∷ l ∷ r ∷ []) ∷ []) ++ (negated g ∷ negated l ∷ negated r ∷ []) ∷ []) ++ (g ∷ negated l ∷ r ∷ []) ∷ []) ++ (g ∷ l ∷ negated r ∷ []) ∷ []
     → new.spent ≡ old.spent
     → Makes old new 1 4 (λ a. value a g ≡ xor (value a l) (value a r))
 unfolding Satisfies clause_value AreBelow
-xor_makes old new l r g at more l_in r_in clauses working =
+xor_makes {old} {new} l r g at more l_in r_in clauses working =
     let n = old.variables + 1 in
     let g_n : variable_of g < old.variables + 1 = omega (arith, variable_of-positive g old.variables at) in
     let ng_n : variable_of (negated g) < old.variables + 1 = omega (arith, variable_of-negated g, g_n) in
@@ -119,7 +119,7 @@ xor_makes old new l r g at more l_in r_in clauses working =
     gate_makes old new g ((negated g ∷ l ∷ r ∷ []) ∷ (negated g ∷ negated l ∷ negated r ∷ []) ∷ (g ∷ negated l ∷ r ∷ []) ∷ (g ∷ l ∷ negated r ∷ []) ∷ []) 4 (λ a. xor (value a l) (value a r))
     at more (simp append_assoc at clauses)
     (omega arith)
-    (below_three n _ _ _ ng_n l_n r_n, (below_three n _ _ _ ng_n nl_n nr_n, (below_three n _ _ _ g_n nl_n r_n, (below_three n _ _ _ g_n l_n nr_n, tt))))
+    (below_three n ng_n l_n r_n, (below_three n ng_n nl_n nr_n, (below_three n g_n nl_n r_n, (below_three n g_n l_n nr_n, tt))))
     (λ a b same. ap (λ (x : Bool). xor x (value a r)) (value_agrees old.variables a b l same l_in) ∙ ap (λ (x : Bool). xor (value b l) x) (value_agrees old.variables a b r same r_in))
     (λ a e. rw (value-negated a g, value-negated a l, value-negated a r) (xor_holds (value a g) (value a l) (value a r) e))
     (λ a s. let t = rw (value-negated a g, value-negated a l, value-negated a r) at s in xor_only (value a g) (value a l) (value a r) t.0 t.1.0 t.1.1.0 t.1.1.1.0) working
@@ -153,12 +153,12 @@ choice_only false false x true h k l m = cc
 choice_only false false x false h k l m = refl
 
 -- the six clauses make a choice
-pub choice_makes : (old new : Circuit) (c l r g : Lit) → g.0 ≡ 2 * old.variables → new.variables ≡ old.variables + 1 → IsLit old c → IsLit old l → IsLit old r
+pub choice_makes : {old new : Circuit} (c l r g : Lit) → g.0 ≡ 2 * old.variables → new.variables ≡ old.variables + 1 → IsLit old c → IsLit old l → IsLit old r
     → new.clauses ≡ (((((old.clauses ++ (negated c ∷ negated l ∷ g ∷ []) ∷ []) ++ (negated c ∷ l ∷ negated g ∷ []) ∷ []) ++ (c ∷ negated r ∷ g ∷ []) ∷ []) ++ (c ∷ r ∷ negated g ∷ []) ∷ []) ++ (negated l ∷ negated r ∷ g ∷ []) ∷ []) ++ (l ∷ r ∷ negated g ∷ []) ∷ []
     → new.spent ≡ old.spent
     → Makes old new 1 6 (λ a. value a g ≡ choice (value a c) (value a l) (value a r))
 unfolding Satisfies clause_value AreBelow
-choice_makes old new c l r g at more c_in l_in r_in clauses working =
+choice_makes {old} {new} c l r g at more c_in l_in r_in clauses working =
     let n = old.variables + 1 in
     let g_n : variable_of g < old.variables + 1 = omega (arith, variable_of-positive g old.variables at) in
     let ng_n : variable_of (negated g) < old.variables + 1 = omega (arith, variable_of-negated g, g_n) in
@@ -171,7 +171,7 @@ choice_makes old new c l r g at more c_in l_in r_in clauses working =
     gate_makes old new g ((negated c ∷ negated l ∷ g ∷ []) ∷ (negated c ∷ l ∷ negated g ∷ []) ∷ (c ∷ negated r ∷ g ∷ []) ∷ (c ∷ r ∷ negated g ∷ []) ∷ (negated l ∷ negated r ∷ g ∷ []) ∷ (l ∷ r ∷ negated g ∷ []) ∷ []) 6 (λ a. choice (value a c) (value a l) (value a r))
     at more (simp append_assoc at clauses)
     (omega arith)
-    (below_three n _ _ _ nc_n nl_n g_n, (below_three n _ _ _ nc_n l_n ng_n, (below_three n _ _ _ c_n nr_n g_n, (below_three n _ _ _ c_n r_n ng_n, (below_three n _ _ _ nl_n nr_n g_n, (below_three n _ _ _ l_n r_n ng_n, tt))))))
+    (below_three n nc_n nl_n g_n, (below_three n nc_n l_n ng_n, (below_three n c_n nr_n g_n, (below_three n c_n r_n ng_n, (below_three n nl_n nr_n g_n, (below_three n l_n r_n ng_n, tt))))))
     (λ a b same. ap (λ (x : Bool). choice x (value a l) (value a r)) (value_agrees old.variables a b c same c_in) ∙ ap (λ (x : Bool). choice (value b c) x (value a r)) (value_agrees old.variables a b l same l_in) ∙ ap (λ (x : Bool). choice (value b c) (value b l) x) (value_agrees old.variables a b r same r_in))
     (λ a e. rw (value-negated a c, value-negated a g, value-negated a l, value-negated a r) (choice_holds (value a g) (value a c) (value a l) (value a r) e))
     (λ a s. let t = rw (value-negated a c, value-negated a g, value-negated a l, value-negated a r) at s in choice_only (value a g) (value a c) (value a l) (value a r) t.0 t.1.0 t.1.1.0 t.1.1.1.0) working

@@ -16,10 +16,10 @@ bitwise_gate-requires c = record {
 pub loop-i-preserved : goal.loop-i-preserved
 loop-i-preserved c =
     rw c.in_ok-push.ensures.ok
-    (bitwise_more _ _ _ _ _ _ _ _ _ _ _ c.loop-i.invariant c.loop-i-test.true (omega (arith, c.requires.right.length, c.loop-i-test.true)) c.in_ok-lit.ensures.lit c.in_ok-lit.ensures.made)
+    (bitwise_more _ _ _ c.loop-i.invariant c.loop-i-test.true (omega (arith, c.requires.right.length, c.loop-i-test.true)) c.in_ok-lit.ensures.lit c.in_ok-lit.ensures.made)
 
 pub returns-clause-made : goal.returns-clause-made
-returns-clause-made c = bitwise_all _ _ _ _ _ _ _ c.loop-i.invariant (omega arith) (omega (arith, c.requires.right.length, c.loop-i-test.false))
+returns-clause-made c = bitwise_all c.loop-i.invariant (omega arith) (omega (arith, c.requires.right.length, c.loop-i-test.false))
 
 pub returns-clause-bits : goal.returns-clause-bits
 returns-clause-bits c = subst (λ (n : ℕ). AreBits c.loop-i.builder n c.loop-i.bits) (let e : c.loop-i.i ≡ length c.args.left.now = omega arith in e) c.loop-i.invariant.bits_in

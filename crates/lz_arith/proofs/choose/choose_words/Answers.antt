@@ -4,7 +4,7 @@ use Rattle.lz_arith.proofs.LoopsLemmas.{chooses_none, chooses_more, chooses_all}
 use Rattle.lz_arith.proofs.choose.choose_words.Goals as goal
 
 pub loop-i-init : goal.loop-i-init
-loop-i-init c = rw c.new-bits.ensures (chooses_none _ _ _ _ c.requires.yes c.requires.no.lits c.requires.test)
+loop-i-init c = rw c.new-bits.ensures (chooses_none c.requires.yes c.requires.no.lits c.requires.test)
 
 pub choose_gate-requires : goal.choose_gate-requires
 choose_gate-requires c = record {
@@ -17,10 +17,10 @@ choose_gate-requires c = record {
 pub loop-i-preserved : goal.loop-i-preserved
 loop-i-preserved c =
     rw c.in_ok-push.ensures.ok
-    (chooses_more _ _ _ _ _ _ _ _ _ _ _ c.loop-i.invariant c.loop-i-test.true (omega (arith, c.requires.no.length, c.loop-i-test.true)) c.in_ok-lit.ensures.lit c.in_ok-lit.ensures.made)
+    (chooses_more _ _ _ c.loop-i.invariant c.loop-i-test.true (omega (arith, c.requires.no.length, c.loop-i-test.true)) c.in_ok-lit.ensures.lit c.in_ok-lit.ensures.made)
 
 pub returns-clause-made : goal.returns-clause-made
-returns-clause-made c = chooses_all _ _ _ _ _ _ _ c.loop-i.invariant (omega arith) (omega (arith, c.requires.no.length, c.loop-i-test.false))
+returns-clause-made c = chooses_all c.loop-i.invariant (omega arith) (omega (arith, c.requires.no.length, c.loop-i-test.false))
 
 pub returns-clause-bits : goal.returns-clause-bits
 returns-clause-bits c = subst (λ (n : ℕ). AreBits c.loop-i.builder n c.loop-i.bits) (let e : c.loop-i.i ≡ length c.args.yes.now = omega arith in e) c.loop-i.invariant.bits_in

@@ -4,7 +4,7 @@ use Rattle.lz_arith.proofs.LoopsLemmas.{masks_none, masks_more, masks_all}
 use Rattle.lz_arith.proofs.choose.mask_word.Goals as goal
 
 pub loop-i-init : goal.loop-i-init
-loop-i-init c = rw c.new-bits.ensures (masks_none _ _ _ c.requires.lits c.requires.test)
+loop-i-init c = rw c.new-bits.ensures (masks_none c.requires.lits c.requires.test)
 
 pub and_gate-requires : goal.and_gate-requires
 and_gate-requires c = record {
@@ -16,10 +16,10 @@ and_gate-requires c = record {
 pub loop-i-preserved : goal.loop-i-preserved
 loop-i-preserved c =
     rw c.in_ok-push.ensures.ok
-    (masks_more _ _ _ _ _ _ _ _ _ c.loop-i.invariant c.loop-i-test.true c.in_ok-lit.ensures.lit c.in_ok-lit.ensures.made)
+    (masks_more _ _ c.loop-i.invariant c.loop-i-test.true c.in_ok-lit.ensures.lit c.in_ok-lit.ensures.made)
 
 pub returns-clause-made : goal.returns-clause-made
-returns-clause-made c = masks_all _ _ _ _ _ _ c.loop-i.invariant (omega arith)
+returns-clause-made c = masks_all c.loop-i.invariant (omega arith)
 
 pub returns-clause-bits : goal.returns-clause-bits
 returns-clause-bits c = subst (λ (n : ℕ). AreBits c.loop-i.builder n c.loop-i.bits) (let e : c.loop-i.i ≡ length c.args.lits.now = omega arith in e) c.loop-i.invariant.bits_in

@@ -6,5 +6,5 @@ use Rattle.lz_arith.proofs.operators.equality_word.Goals as goal
 pub returns-clause-made : goal.returns-clause-made
 returns-clause-made c =
     makes_so _ _ _ _ _ _ _ _
-    (truth_of _ _ _ _ _ _ _ (equal_of _ _ _ _ c.args.turned _ _ _ c.turned_literal-own.ensures c.in_ok-lit.ensures.made) c.in_ok-bits.ensures.made)
+    (truth_of _ _ _ (equal_of _ c.args.turned _ c.turned_literal-own.ensures c.in_ok-lit.ensures.made) c.in_ok-bits.ensures.made)
     (omega (arith, c.requires.left.length)) (omega (arith, c.requires.left.length)) (λ a s p. p)

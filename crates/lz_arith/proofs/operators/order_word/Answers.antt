@@ -3,4 +3,4 @@ use Rattle.lz_arith.proofs.operators.order_word.Goals as goal
 
 pub returns-clause-made : goal.returns-clause-made
 returns-clause-made c =
-    truth_of _ _ _ _ _ _ _ (turned_of _ _ _ _ c.args.turned _ _ _ c.turned_literal-own.ensures c.in_ok-lit.ensures.made) c.in_ok-bits.ensures.made
+    truth_of _ _ _ (turned_of _ c.args.turned _ c.turned_literal-own.ensures c.in_ok-lit.ensures.made) c.in_ok-bits.ensures.made

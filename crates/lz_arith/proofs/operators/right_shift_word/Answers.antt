@@ -4,4 +4,4 @@ use Rattle.lz_arith.proofs.OperatorsLemmas.{right_shift_makes}
 use Rattle.lz_arith.proofs.operators.right_shift_word.Goals as goal
 
 pub returns-clause-made : goal.returns-clause-made
-returns-clause-made c = right_shift_makes _ _ _ _ _ _ _ _ c.requires.left.length c.requires.right.length refl (length-take-le 5 c.args.right.now (omega (arith, c.requires.right.length))) c.fill_of-fill.ensures.says c.in_ok-bits.ensures.made
+returns-clause-made c = right_shift_makes _ _ _ _ _ c.requires.left.length c.requires.right.length refl (length-take-le 5 c.args.right.now (omega (arith, c.requires.right.length))) c.fill_of-fill.ensures.says c.in_ok-bits.ensures.made

@@ -6,11 +6,11 @@ use Rattle.lz_arith.proofs.ShiftsLemmas.{shifts_none, shifts_turn, shifts_all, s
 use Rattle.lz_arith.proofs.shift.shift_down.Goals as goal
 
 pub loop-i-init : goal.loop-i-init
-loop-i-init c = shifts_none _ (λ (a : Assignment). moved_down (2 ^ length c.args.bits.now) (value a c.args.fill)) _ _ _ (downs_move _ _) c.requires.bits c.requires.amount c.in_ok-moved.ensures
+loop-i-init c = shifts_none (λ (a : Assignment). moved_down (2 ^ length c.args.bits.now) (value a c.args.fill)) (downs_move _ _) c.requires.bits c.requires.amount c.in_ok-moved.ensures
 
 pub stage_down-requires : goal.stage_down-requires
 stage_down-requires c =
-    let held = bits_of c.loop-i.builder _ _ _ _ refl c.items.ensures c.loop-i.invariant.moved_in in
+    let held = bits_of refl c.items.ensures c.loop-i.invariant.moved_in in
     let fits = stage_within (length c.args.bits.now) (length c.args.amount.now) c.loop-i.i c.loop-i.by c.loop-i-test.true c.loop-i.invariant.by_is c.requires.within in
     record {
       fill = omega (arith, c.requires.fill, c.loop-i.invariant.made.extends.more);
@@ -22,16 +22,16 @@ stage_down-requires c =
 
 pub loop-i-preserved : goal.loop-i-preserved
 loop-i-preserved c =
-    shifts_turn _ _ _ (λ (n : ℕ) (a : Assignment). moved_down (2 ^ n) (value a c.args.fill)) _ _ _ _ _ _ _ _ (downs_move _ _) c.loop-i.invariant c.loop-i-test.true c.items.ensures c.in_ok-next.ensures.bits c.in_ok-next.ensures.made
+    shifts_turn (λ (n : ℕ) (a : Assignment). moved_down (2 ^ n) (value a c.args.fill)) _ (downs_move _ _) c.loop-i.invariant c.loop-i-test.true c.items.ensures c.in_ok-next.ensures.bits c.in_ok-next.ensures.made
 
 pub overflow_mul-by : goal.overflow_mul-by
 overflow_mul-by c =
-    let held = bits_of c.loop-i.builder _ _ _ _ refl c.items.ensures c.loop-i.invariant.moved_in in
+    let held = bits_of refl c.items.ensures c.loop-i.invariant.moved_in in
     let fits = stage_within (length c.args.bits.now) (length c.args.amount.now) c.loop-i.i c.loop-i.by c.loop-i-test.true c.loop-i.invariant.by_is c.requires.within in
     omega (arith, fits.1, held.length, c.items.type_inv)
 
 pub returns-clause-made : goal.returns-clause-made
-returns-clause-made c = shifts_all _ _ _ _ _ _ _ _ c.loop-i.invariant (omega arith)
+returns-clause-made c = shifts_all c.loop-i.invariant (omega arith)
 
 pub returns-clause-bits : goal.returns-clause-bits
 returns-clause-bits c = c.loop-i.invariant.moved_in

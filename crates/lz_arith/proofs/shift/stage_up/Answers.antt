@@ -5,7 +5,7 @@ use Rattle.lz_arith.proofs.shift.stage_up.Goals as goal
 
 pub choose_words-requires : goal.choose_words-requires
 choose_words-requires c =
-    let moved = moved_bits c.args.builder.now _ _ _ _ c.falsity-off.ensures.lit c.requires.bits c.requires.within (c.items.ensures ∙ c.in_ok-moved.ensures) in
+    let moved = moved_bits c.args.builder.now _ _ c.falsity-off.ensures.lit c.requires.bits c.requires.within (c.items.ensures ∙ c.in_ok-moved.ensures) in
     record {
       test = c.requires.test;
       yes = moved.lits;
@@ -15,10 +15,10 @@ choose_words-requires c =
 
 pub returns-clause-made : goal.returns-clause-made
 returns-clause-made c =
-    let moved = moved_bits c.args.builder.now _ _ _ _ c.falsity-off.ensures.lit c.requires.bits c.requires.within (c.items.ensures ∙ c.in_ok-moved.ensures) in
-    stage_up_makes _ _ _ _ _ _ _ _ c.falsity-off.ensures.says c.requires.within (c.items.ensures ∙ c.in_ok-moved.ensures) moved.length c.in_ok-chosen.ensures.made
+    let moved = moved_bits c.args.builder.now _ _ c.falsity-off.ensures.lit c.requires.bits c.requires.within (c.items.ensures ∙ c.in_ok-moved.ensures) in
+    stage_up_makes _ _ _ _ c.falsity-off.ensures.says c.requires.within (c.items.ensures ∙ c.in_ok-moved.ensures) moved.length c.in_ok-chosen.ensures.made
 
 pub returns-clause-bits : goal.returns-clause-bits
 returns-clause-bits c =
-    let moved = moved_bits c.args.builder.now _ _ _ _ c.falsity-off.ensures.lit c.requires.bits c.requires.within (c.items.ensures ∙ c.in_ok-moved.ensures) in
-    bits_of _ _ _ _ _ moved.length refl c.in_ok-chosen.ensures.bits
+    let moved = moved_bits c.args.builder.now _ _ c.falsity-off.ensures.lit c.requires.bits c.requires.within (c.items.ensures ∙ c.in_ok-moved.ensures) in
+    bits_of moved.length refl c.in_ok-chosen.ensures.bits

@@ -16,35 +16,35 @@ loop-i-init c = record {
 
 pub add_node-requires : goal.add_node-requires
 add_node-requires c = record {
-  node = turn_node c.args.nodes.now _ _ _ _ _ _ c.items-list.ensures c.requires.formed c.loop-i.invariant.stands c.loop-i.invariant.count c.loop-i-test.true;
+  node = turn_node c.args.nodes.now _ c.items-list.ensures c.requires.formed c.loop-i.invariant.stands c.loop-i.invariant.count c.loop-i-test.true;
   words = c.loop-i.invariant.stands.words_in;
-  room = turn_room c.args.nodes.now _ _ _ _ _ _ c.items-list.ensures c.requires.light c.loop-i.invariant.stands c.loop-i-test.true;
+  room = turn_room c.args.nodes.now _ c.items-list.ensures c.requires.light c.loop-i.invariant.stands c.loop-i-test.true;
 }
 
 pub loop-i-preserved : goal.loop-i-preserved
 loop-i-preserved c = record {
-  stands = turn_more _ _ _ _ _ _ _ _ _ c.loop-i.invariant.stands c.loop-i-test.true c.in_ok-add_node.ensures.steps;
+  stands = turn_more _ _ c.loop-i.invariant.stands c.loop-i-test.true c.in_ok-add_node.ensures.steps;
   count = c.in_ok-add_node.ensures.inputs ∙ c.loop-i.invariant.count;
 }
 
 pub truth_bit-requires-clause-room : goal.truth_bit-requires-clause-room
 truth_bit-requires-clause-room c =
-    test_room c.args.nodes.now _ _ _ (turn_all c.args.nodes.now _ _ _ _ _ c.items-list.ensures c.loop-i.invariant.stands c.loop-i-test.false) c.requires.light
+    test_room c.args.nodes.now (turn_all c.args.nodes.now c.items-list.ensures c.loop-i.invariant.stands c.loop-i-test.false) c.requires.light
 
 pub returns-clause-decides : goal.returns-clause-decides
 returns-clause-decides c =
-    let tested = tested_of c.args.nodes.now _ _ c.require.new.self _ _ _ _ _ _ (turn_all c.args.nodes.now _ _ _ _ _ c.items-list.ensures c.loop-i.invariant.stands c.loop-i-test.false) c.requires.formed c.items.ensures c.index-items-nodes.is
+    let tested = tested_of c.args.nodes.now c.require.new.self (turn_all c.args.nodes.now c.items-list.ensures c.loop-i.invariant.stands c.loop-i-test.false) c.requires.formed c.items.ensures c.index-items-nodes.is
     c.in_ok-test.ensures.made c.in_ok-require.ensures.variables c.in_ok-require.ensures.clauses c.finish.ensures.variables c.finish.ensures.clauses in
-    rw c.in_ok-inputs-2.ensures (decides c.args.nodes.now _ _ _ _ _ _ _ tested c.require.new.self c.finish.ensures.circuit (sym c.finish.ensures.variables) (sym c.finish.ensures.clauses))
+    rw c.in_ok-inputs-2.ensures (decides c.args.nodes.now tested c.require.new.self c.finish.ensures.circuit (sym c.finish.ensures.variables) (sym c.finish.ensures.clauses))
 
 pub returns-clause-variables : goal.returns-clause-variables
 returns-clause-variables c =
-    let tested = tested_of c.args.nodes.now _ _ c.require.new.self _ _ _ _ _ _ (turn_all c.args.nodes.now _ _ _ _ _ c.items-list.ensures c.loop-i.invariant.stands c.loop-i-test.false) c.requires.formed c.items.ensures c.index-items-nodes.is
+    let tested = tested_of c.args.nodes.now c.require.new.self (turn_all c.args.nodes.now c.items-list.ensures c.loop-i.invariant.stands c.loop-i-test.false) c.requires.formed c.items.ensures c.index-items-nodes.is
     c.in_ok-test.ensures.made c.in_ok-require.ensures.variables c.in_ok-require.ensures.clauses c.finish.ensures.variables c.finish.ensures.clauses in
-    (counted c.args.nodes.now _ _ _ _ _ _ _ tested).0
+    (counted c.args.nodes.now tested).0
 
 pub returns-clause-clauses : goal.returns-clause-clauses
 returns-clause-clauses c =
-    let tested = tested_of c.args.nodes.now _ _ c.require.new.self _ _ _ _ _ _ (turn_all c.args.nodes.now _ _ _ _ _ c.items-list.ensures c.loop-i.invariant.stands c.loop-i-test.false) c.requires.formed c.items.ensures c.index-items-nodes.is
+    let tested = tested_of c.args.nodes.now c.require.new.self (turn_all c.args.nodes.now c.items-list.ensures c.loop-i.invariant.stands c.loop-i-test.false) c.requires.formed c.items.ensures c.index-items-nodes.is
     c.in_ok-test.ensures.made c.in_ok-require.ensures.variables c.in_ok-require.ensures.clauses c.finish.ensures.variables c.finish.ensures.clauses in
-    (counted c.args.nodes.now _ _ _ _ _ _ _ tested).1
+    (counted c.args.nodes.now tested).1

@@ -2,4 +2,4 @@ use Rattle.lz_blast.proofs.NodeLemmas.{adds_unary}
 use Rattle.lz_blast.proofs.node.add_unary.Goals as goal
 
 pub returns : goal.returns
-returns c = record { adds = adds_unary _ _ _ _ _ _ _ _ _ _ c.items.ensures c.requires.operand c.index-items-of.is c.in_ok-push.ensures.ok c.in_ok-bits.ensures.bits c.in_ok-bits.ensures.made }
+returns c = record { adds = adds_unary _ _ c.items.ensures c.requires.operand c.index-items-of.is c.in_ok-push.ensures.ok c.in_ok-bits.ensures.bits c.in_ok-bits.ensures.made }

@@ -9,4 +9,4 @@ pub fresh-requires : goal.fresh-requires
 fresh-requires c = record { room = omega (arith, c.requires.room, c.loop-i.invariant.variables, c.loop-i-test.true) }
 
 pub loop-i-preserved : goal.loop-i-preserved
-loop-i-preserved c = rw c.in_ok-push.ensures.ok (freshens_more _ _ _ _ _ _ c.loop-i.invariant c.in_ok-lit.ensures.lit c.in_ok-lit.ensures.variables)
+loop-i-preserved c = rw c.in_ok-push.ensures.ok (freshens_more _ c.loop-i.invariant c.in_ok-lit.ensures.lit c.in_ok-lit.ensures.variables)

@@ -9,4 +9,4 @@ pub operand_bit-requires-clause-room : goal.operand_bit-requires-clause-room
 operand_bit-requires-clause-room c = omega (arith, c.requires.room, c.loop-place.invariant.most, c.loop-place-test.true)
 
 pub loop-place-preserved : goal.loop-place-preserved
-loop-place-preserved c = rw c.in_ok-push.ensures.ok (brings_more _ _ _ _ _ _ c.loop-place.invariant c.in_ok-lit.ensures.lit c.in_ok-lit.ensures.more c.in_ok-lit.ensures.most)
+loop-place-preserved c = rw c.in_ok-push.ensures.ok (brings_more _ c.loop-place.invariant c.in_ok-lit.ensures.lit c.in_ok-lit.ensures.more c.in_ok-lit.ensures.most)
