@@ -44,12 +44,12 @@ walk_turn f xs at found x lt is kept one none =
     record { same = ap (λ o. first_of_two o (first_in f (drop (at + 1) xs))) (sym none ∙ one) ∙ (sym (here f xs at x lt is) ∙ kept.same) }
 
 -- where the part has one, it is that of the whole
-pub walk_found : {A : Type 0} (f : A → Option ℕ) (xs : List A) (at : ℕ) (found : Option ℕ) (line : ℕ) (x : A) → at < length xs → x ≡ get_or xs at x → IsLeft f xs at → found ≡ f x → found ≡ Some line → Some line ≡ first_in f xs
-walk_found f xs at found line x lt is kept one some =
+pub walk_found : {A : Type 0} {f : A → Option ℕ} {xs : List A} {at : ℕ} {found : Option ℕ} {line : ℕ} {x : A} → at < length xs → x ≡ get_or xs at x → IsLeft f xs at → found ≡ f x → found ≡ Some line → Some line ≡ first_in f xs
+walk_found {f} {xs} {at} {x} lt is kept one some =
     ap (λ o. first_of_two o (first_in f (drop (at + 1) xs))) (sym some ∙ one) ∙ (sym (here f xs at x lt is) ∙ kept.same)
 
 -- at the end there is none
-pub walk_end : {A : Type 0} (f : A → Option ℕ) (xs : List A) (at : ℕ) → at ≡ length xs → IsLeft f xs at → None ≡ first_in f xs
-walk_end {A = A} f xs at end kept =
+pub walk_end : {A : Type 0} {f : A → Option ℕ} {xs : List A} {at : ℕ} → at ≡ length xs → IsLeft f xs at → None ≡ first_in f xs
+walk_end {A = A} {f} {xs} {at} end kept =
     let gone : drop at xs ≡ [] = rw end (drop-length xs) in
     ap (λ (ys : List A). first_in f ys) (sym gone) ∙ kept.same

@@ -1,5 +1,5 @@
 -- The test of a tree is whether a thread can run it.
-use Rattle.std.proofs.Common.{◌≡◌, ℕ, suc, ◌+◌, ◌<◌, ◌≤◌, Bool, true, false, not, ◌&&◌, nat_lt, List, [], ◌∷◌, length, drop, get_or, map, Option, Some, None, refl, sym, ap, ◌∙◌, subst, arith, add-one}
+use Rattle.std.proofs.Common.{◌≡◌, ℕ, suc, ◌+◌, ◌<◌, ◌≤◌, Bool, true, false, ◌&&◌, nat_lt, List, [], ◌∷◌, length, drop, get_or, map, Option, Some, None, refl, sym, ap, ◌∙◌, arith, add-one}
 use Rattle.std.proofs.Math.Seq.{drop-cons, drop-length}
 use Rattle.std.proofs.lemmas.Bool.{and_parts, and_from}
 use Rattle.std.proofs.lemmas.Bool.Decides.{nat_tests}
@@ -8,7 +8,6 @@ use Rattle.std.proofs.lemmas.List.Elements.{All-head, All-tail, All-cons}
 use Rattle.lz_base.specs.Words.{value_bound}
 use Rattle.lz_tree.specs.declared.scoped.Object.{Object}
 use Rattle.lz_tree.specs.ScopedTrees.{ScopedExpression, constant, null, text, object, address, paren, unary, cast, binary, choose, assign, step, call, Lvalue, lvalue, ScopedIndex, whole, element, ScopedExpressions, none, and, scoped_expressions_of, ScopedInitializer, nothing, single, listed, ScopedInitDeclarator, ScopedStatement, empty, eval, block, declare, when, while, do_while, for, break, continue, return, label, ScopedBranch, absent, branch, ScopedStatements, nil, cons, scoped_statements_of, ScopedDefinition}
-use Rattle.lz_model.specs.CodeTraces.{first_of, len_of}
 use Rattle.lz_turns.specs.Fits.{HasNumbers, IsFit, IsFitPlace, IsFitIndex, AreFit}
 use Rattle.lz_stations.specs.StatementFits.{MayFit, IsFitFirst, AreFitDeclared, IsFitStatement, IsFitBranch, AreFitStatements}
 use Rattle.lz_fits.specs.Fits.{has_numbers, fits, place_fits, index_fits, all_fit, may_fit, first_fits, declarator_fits, declared_fit, statement_fits, branch_fits, parts_fit, bodies_fit}
@@ -61,8 +60,8 @@ and_true true = refl
 and_true false = refl
 
 -- at the end it is the whole
-pub walk_end : {A : Type 0} (p : A → Bool) (xs : List A) (at : ℕ) (fit : Bool) → at ≡ length xs → IsSoFar p xs at fit → fit ≡ list_all p xs
-walk_end {A = A} p xs at fit end so_far =
+pub walk_end : {A : Type 0} {p : A → Bool} {xs : List A} {at : ℕ} {fit : Bool} → at ≡ length xs → IsSoFar p xs at fit → fit ≡ list_all p xs
+walk_end {A = A} {p} {xs} {at} {fit} end so_far =
     let gone : drop at xs ≡ [] = rw end (drop-length xs) in
     sym (and_true fit) ∙ (ap (λ (ys : List A). fit && list_all p ys) (sym gone) ∙ so_far.found)
 

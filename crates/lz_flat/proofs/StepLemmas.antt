@@ -56,17 +56,17 @@ instruction_at n (x ∷ xs) (suc at) next is lt e =
     subst (λ (left : ℕ). IsInstructionAt n left (instruction next.instr) next.visible) (let z : length xs - at ≡ suc (length xs) - suc at = omega arith in z) (instruction_at n xs at next is.3 (omega arith) e)
 
 -- an instruction that is not visible is not blocked
-pub not_blocked : (n left : ℕ) (i : Instruction) (input : ℕ) (memory : List ℕ) → IsInstructionAt n left i false → did i input memory ≡ blocked → ⊥
+pub not_blocked : {n left : ℕ} {i : Instruction} (input : ℕ) (memory : List ℕ) → IsInstructionAt n left i false → did i input memory ≡ blocked → ⊥
 unfolding did
-not_blocked n left (sets to of) input memory is e = cc
-not_blocked n left (takes to) input memory is e = cc
-not_blocked n left (assumes test) input memory is e = let m = is.mark in cc
-not_blocked n left (checks test kind line) input memory is e = decide (eqb (value test memory) 0) e
+not_blocked {i = sets to of} input memory is e = cc
+not_blocked {i = takes to} input memory is e = cc
+not_blocked {i = assumes test} input memory is e = let m = is.mark in cc
+not_blocked {i = checks test kind line} input memory is e = decide (eqb (value test memory) 0) e
   where
     decide : (b : Bool) → cond b (broke kind line) (moved 0 memory) ≡ blocked → ⊥
     decide true h = cc
     decide false h = cc
-not_blocked n left (skips test by) input memory is e = cc
+not_blocked {i = skips test by} input memory is e = cc
 
 -- an instruction moves no further than the end of the code
 pub moves_within : (n left : ℕ) (i : Instruction) (visible : Bool) (input : ℕ) (memory : List ℕ) (over : ℕ) (after : List ℕ) → IsInstructionAt n left i visible → 1 ≤ left → did i input memory ≡ moved over after → 1 + over ≤ left
@@ -139,11 +139,11 @@ behind_drop code at over =
     drop-map marked over (drop (at + 1) code) ∙ ap (map marked) (drop-drop over (at + 1) code ∙ ap (λ (n : ℕ). drop n code) (let z : at + 1 + over ≡ at + (1 + over) = omega arith in z))
 
 -- a turn of the loop keeps what is left
-pub left_moves : (code : List Marked) (input : ℕ → ℕ) (from : ℕ) (start : List ℕ) (at used : ℕ) (memory after : List ℕ) (next : Marked) (over n : ℕ) → LeftFrom code input from start at used memory
+pub left_moves : {code : List Marked} {input : ℕ → ℕ} {from : ℕ} {start : List ℕ} {at used : ℕ} {memory after : List ℕ} (next : Marked) (over n : ℕ) → LeftFrom code input from start at used memory
     → IsCodeOf n (map marked code) → at < length code → next ≡ get_or code at next → next.visible ≡ false
     → Performs (instruction next.instr) (input at) memory after (Ok over) → All IsWord after → length after ≡ length memory
     → LeftFrom code input from start (at + (1 + over)) (used + 1) after
-left_moves code input from start at used memory after next over n left is lt e v performs words size =
+left_moves {code} {input} {from} {start} {at} {used} {memory} {after} next over n left is lt e v performs words size =
     let more = drop_item code at next lt e in
     let rest = map marked (drop (at + 1) code) in
     let place : suc at + over ≡ at + (1 + over) = omega arith in
@@ -178,13 +178,13 @@ left_breaks code input from start at used memory after next kind line left lt e 
     rw (drop-map marked from code) (sym old ∙ onward_breaks input at (marked next) rest memory kind line v performs.0)
 
 -- a turn that stops stops the walk from the start
-pub left_halts : (code : List Marked) (input : ℕ → ℕ) (from : ℕ) (start : List ℕ) (at used : ℕ) (memory after : List ℕ) (next : Marked) (halt : Halt) (n : ℕ) → LeftFrom code input from start at used memory
+pub left_halts : {code : List Marked} {input : ℕ → ℕ} {from : ℕ} {start : List ℕ} {at used : ℕ} {memory : List ℕ} (after : List ℕ) (next : Marked) (halt : Halt) (n : ℕ) → LeftFrom code input from start at used memory
     → IsCodeOf n (map marked code) → at < length code → next ≡ get_or code at next → next.visible ≡ false
     → Performs (instruction next.instr) (input at) memory after (Err halt) → RunsOn (map marked code) input from start after (Err halt)
-left_halts code input from start at used memory after next halts.Blocked n left is lt e v performs =
+left_halts {code} {at} after next halts.Blocked n left is lt e v performs =
     let unseen = subst (λ (b : Bool). IsInstructionAt n (length code - at) (instruction next.instr) b) v (instruction_at n code at next is lt e) in
-    not_blocked _ _ _ _ _ unseen performs.0
-left_halts code input from start at used memory after next (halts.Broke kind line) n left is lt e v performs =
+    not_blocked _ _ unseen performs.0
+left_halts {code} {input} {from} {start} {at} {used} {memory} after next (halts.Broke kind line) n left is lt e v performs =
     left_breaks code input from start at used memory after next kind line left lt e v performs
 
 -- at the end the walk leads to the end
@@ -213,8 +213,8 @@ pub record EndsAt (code : List Marked) (input : ℕ → ℕ) (from : ℕ) (start
   pub count : used ≡ suc (onward_count input from (drop from (map marked code)) 0 start)
 
 -- a loop that comes to the end has the walk from the start
-pub left_ends : (code : List Marked) (input : ℕ → ℕ) (from : ℕ) (start : List ℕ) (at used : ℕ) (memory : List ℕ) → LeftFrom code input from start at used memory → length code ≤ at → EndsAt code input from start at used memory
-left_ends code input from start at used memory left h =
+pub left_ends : {code : List Marked} {input : ℕ → ℕ} {from : ℕ} {start : List ℕ} {at used : ℕ} {memory : List ℕ} → LeftFrom code input from start at used memory → length code ≤ at → EndsAt code input from start at used memory
+left_ends {code} {input} {from} {start} {at} {used} {memory} left h =
     let none : drop at code ≡ [] = drop_all at code h in
     let same = subst (λ (part : List Marked). onward input at (map marked part) 0 memory ≡ onward input from (map marked (drop from code)) 0 start) none left.same in
     let count = subst (λ (part : List Marked). used + onward_count input at (map marked part) 0 memory ≡ suc (onward_count input from (map marked (drop from code)) 0 start)) none left.count in
@@ -225,9 +225,9 @@ left_ends code input from start at used memory left h =
     }
 
 -- so has one that comes to a visible instruction
-pub left_stops : (code : List Marked) (input : ℕ → ℕ) (from : ℕ) (start : List ℕ) (at used : ℕ) (memory : List ℕ) (next : Marked) → LeftFrom code input from start at used memory → at < length code → next ≡ get_or code at next → next.visible ≡ true
+pub left_stops : {code : List Marked} {input : ℕ → ℕ} {from : ℕ} {start : List ℕ} {at used : ℕ} {memory : List ℕ} (next : Marked) → LeftFrom code input from start at used memory → at < length code → next ≡ get_or code at next → next.visible ≡ true
     → EndsAt code input from start at used memory
-left_stops code input from start at used memory next left lt e v =
+left_stops {code} {input} {from} {start} {at} {used} {memory} next left lt e v =
     let more = drop_item code at next lt e in
     let rest = map marked (drop (at + 1) code) in
     let same = subst (λ (part : List Marked). onward input at (map marked part) 0 memory ≡ onward input from (map marked (drop from code)) 0 start) more left.same in

@@ -52,9 +52,9 @@ at_next list first input i memory next runs lt e =
     subst (λ (part : List Guarded). straight input i (map statement part) memory ≡ straight input 0 (map statement list) first) more runs.same
 
 -- a statement that moves on leaves the run from the next on
-pub moves : (list : List Guarded) (first : List ℕ) (input : ℕ → ℕ) (i : ℕ) (memory after : List ℕ) (next : Guarded) (over : ℕ) → RunsFrom list first input i memory → i < length list → next ≡ get_or list i next
+pub moves : {list : List Guarded} {first : List ℕ} {input : ℕ → ℕ} {i : ℕ} {memory after : List ℕ} (next : Guarded) (over : ℕ) → RunsFrom list first input i memory → i < length list → next ≡ get_or list i next
     → PerformsGuarded (statement next) (input i) memory after (Ok over) → All IsWord after → length after ≡ length memory → RunsFrom list first input (i + 1) after
-moves list first input i memory after next over runs lt e performs words size = record {
+moves {list} {first} {input} {i} {memory} {after} next over runs lt e performs words size = record {
   same = subst (λ (k : ℕ). straight input k rest after ≡ straight input 0 (map statement list) first) (let z : suc i ≡ i + 1 = omega arith in z) (behind performs);
   words = words;
   size = size ∙ runs.size;
@@ -73,26 +73,26 @@ moves list first input i memory after next over runs lt e performs words size = 
         sym (straight_taken input i (statement next) rest memory runs.0 ∙ rw runs.1 refl) ∙ here
 
 -- one that is blocked stops the run
-pub stops_here : (list : List Guarded) (first : List ℕ) (input : ℕ → ℕ) (i : ℕ) (memory after : List ℕ) (next : Guarded) → RunsFrom list first input i memory → i < length list → next ≡ get_or list i next
+pub stops_here : {list : List Guarded} {first : List ℕ} {input : ℕ → ℕ} {i : ℕ} {memory : List ℕ} (after : List ℕ) (next : Guarded) → RunsFrom list first input i memory → i < length list → next ≡ get_or list i next
     → PerformsGuarded (statement next) (input i) memory after (Err halts.Blocked) → straight input 0 (map statement list) first ≡ fails → ⊥
-stops_here list first input i memory after next runs lt e performs failed =
+stops_here {list} {first} {input} {i} {memory} after next runs lt e performs failed =
     let rest = map statement (drop (i + 1) list) in
     let ran : straight input i (statement next ∷ rest) memory ≡ stops = straight_taken input i (statement next) rest memory performs.0 ∙ rw performs.1 refl in
     let whole = at_next list first input i memory next runs lt e in
     cc
 
 -- one that breaks fails it
-pub fails_here : (list : List Guarded) (first : List ℕ) (input : ℕ → ℕ) (i : ℕ) (memory after : List ℕ) (next : Guarded) (kind : BreakKind) (line : ℕ) → RunsFrom list first input i memory → i < length list → next ≡ get_or list i next
+pub fails_here : {list : List Guarded} {first : List ℕ} {input : ℕ → ℕ} {i : ℕ} {memory : List ℕ} (after : List ℕ) (next : Guarded) (kind : BreakKind) (line : ℕ) → RunsFrom list first input i memory → i < length list → next ≡ get_or list i next
     → PerformsGuarded (statement next) (input i) memory after (Err (halts.Broke kind line)) → straight input 0 (map statement list) first ≡ fails
-fails_here list first input i memory after next kind line runs lt e performs =
+fails_here {list} {first} {input} {i} {memory} after next kind line runs lt e performs =
     let rest = map statement (drop (i + 1) list) in
     let ran : straight input i (statement next ∷ rest) memory ≡ fails = straight_taken input i (statement next) rest memory performs.0 ∙ rw performs.1 refl in
     sym (at_next list first input i memory next runs lt e) ∙ ran
 
 -- a run that comes to the end has not failed
-pub holds_at_end : (list : List Guarded) (first : List ℕ) (input : ℕ → ℕ) (i : ℕ) (memory : List ℕ) → RunsFrom list first input i memory → length list ≤ i → straight input 0 (map statement list) first ≡ fails → ⊥
+pub holds_at_end : {list : List Guarded} {first : List ℕ} {input : ℕ → ℕ} {i : ℕ} {memory : List ℕ} → RunsFrom list first input i memory → length list ≤ i → straight input 0 (map statement list) first ≡ fails → ⊥
 unfolding straight
-holds_at_end list first input i memory runs h failed =
+holds_at_end {list} {first} {input} {i} {memory} runs h failed =
     let none : drop i list ≡ [] = drop_all i list h in
     let left : still memory ≡ straight input 0 (map statement list) first = subst (λ (part : List Guarded). straight input i (map statement part) memory ≡ straight input 0 (map statement list) first) none runs.same in
     cc

@@ -18,12 +18,12 @@ three n t l first rest =
     ∷ always (sets (whole (flag_place n)) (runs_next n t (suc l) (map marked rest))) ∷ []
 
 -- a turn that adds the three statements of the next instruction keeps what is left
-pub one_turn : (n t l : ℕ) (code : List Marked) (first : Marked) (before after all : List Statement) → l < length code → first ≡ get_or code l first
+pub one_turn : (n t : ℕ) {l : ℕ} (code : List Marked) {first : Marked} (before : List Statement) {after all : List Statement} → l < length code → first ≡ get_or code l first
     → before ++ encoded n t l (map marked (drop l code)) ≡ all
     → after ≡ before ++ body n (instruction first.instr) ∷ flagged n (sets (whole (saved_place n t)) (following l (instruction first.instr)))
     ∷ always (sets (whole (flag_place n)) (runs_next n t (suc l) (map marked (take (length code - (l + 1)) (drop (l + 1) code))))) ∷ []
     → after ++ encoded n t (l + 1) (map marked (drop (l + 1) code)) ≡ all
-one_turn n t l code first before after all lt at old new =
+one_turn n t {l} code {first} before {after} {all} lt at old new =
     let left = drop (l + 1) code in
     let more : drop l code ≡ first ∷ left = drop_more code l first lt ∙ ap (λ (x : Marked). x ∷ left) (sym at) in
     let rest : take (length code - (l + 1)) left ≡ left = take_rest code (l + 1) in
@@ -39,9 +39,9 @@ one_turn n t l code first before after all lt at old new =
     (subst (λ (x : List Statement). x ++ encoded n t (suc l) (map marked left) ≡ all) (sym now) behind)
 
 -- at the end nothing is left
-pub no_more : (n t l : ℕ) (code : List Marked) (before all : List Statement) → length code ≤ l
+pub no_more : (n t : ℕ) {l : ℕ} (code : List Marked) {before all : List Statement} → length code ≤ l
     → before ++ encoded n t l (map marked (drop l code)) ≡ all → before ≡ all
 unfolding encoded
-no_more n t l code before all h old =
+no_more n t {l} code {before} {all} h old =
     let none : drop l code ≡ [] = drop_all l code h in
     sym (append-nil before) ∙ subst (λ (part : List Marked). before ++ encoded n t l (map marked part) ≡ all) none old

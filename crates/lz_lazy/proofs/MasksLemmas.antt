@@ -127,8 +127,8 @@ power_more : (k : ℕ) → 2 ^ (k + 1) ≡ 2 * 2 ^ k
 power_more k = ap (λ (j : ℕ). 2 ^ j) (let z : k + 1 ≡ suc k = omega arith in z) ∙ power_suc k
 
 -- a turn keeps what is left
-pub mask_turns : (size turns mask after : ℕ) → MaskAt size turns mask → turns < 32 → after ≡ (if nat_le size mask then mask else 2 * mask + 1) → MaskAt size (turns + 1) after
-mask_turns size turns mask after at lt e =
+pub mask_turns : {size turns mask after : ℕ} → MaskAt size turns mask → turns < 32 → after ≡ (if nat_le size mask then mask else 2 * mask + 1) → MaskAt size (turns + 1) after
+mask_turns {size} {turns} {mask} at lt e =
     let one : 32 - turns ≡ suc (32 - (turns + 1)) = omega arith in
     record {
       same = subst (λ (m : ℕ). mask_from (32 - (turns + 1)) m size ≡ mask_of size) (sym e)
@@ -146,16 +146,16 @@ power_rises : (a b : ℕ) → a ≤ b → 2 ^ a ≤ 2 ^ b
 power_rises a b h = pow-le-pow_right (let z : 0 < 2 = omega arith in z) h
 
 -- the mask is a word in each turn
-pub mask_below : (size turns mask : ℕ) → MaskAt size turns mask → mask < value_bound
-mask_below size turns mask at =
+pub mask_below : {size turns mask : ℕ} → MaskAt size turns mask → mask < value_bound
+mask_below {turns} at =
     let p : 2 ^ turns ≤ 2 ^ 32 = power_rises turns 32 at.few in
     let s = at.small in
     let z : 2 ^ 32 ≡ value_bound = refl in
     omega (arith, p, s, z)
 
 -- after all turns it is the mask of the size
-pub mask_found : (size turns mask : ℕ) → MaskAt size turns mask → 32 ≤ turns → mask ≡ mask_of size
+pub mask_found : {size turns mask : ℕ} → MaskAt size turns mask → 32 ≤ turns → mask ≡ mask_of size
 unfolding mask_from
-mask_found size turns mask at h =
+mask_found {size} {turns} {mask} at h =
     let none : 32 - turns ≡ 0 = omega arith in
     subst (λ (k : ℕ). mask_from k mask size ≡ mask_of size) none at.same

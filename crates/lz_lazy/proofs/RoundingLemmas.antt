@@ -27,12 +27,12 @@ from_here t n lt =
     ap (threads_from t) one ∙ ap (λ (k : ℕ). t ∷ threads_from k (n - (t + 1))) next
 
 -- a turn that adds the block of the next thread keeps what is left
-pub thread_turn : (flat : Flat) (threads : List (List Marked)) (n t : ℕ) (code : List Marked) (before after all : List Statement) → threads ≡ flat.threads → n ≡ length flat.first
+pub thread_turn : (flat : Flat) (threads : List (List Marked)) {n t : ℕ} {code : List Marked} (before : List Statement) {after all : List Statement} → threads ≡ flat.threads → n ≡ length flat.first
     → t < length threads → code ≡ get_or threads t code
     → before ++ encoded_blocks (flat_program flat) (threads_from t (length flat.threads - t)) ≡ all
     → after ≡ before ++ (head n t (map marked code) ++ encoded n t 0 (map marked code))
     → after ++ encoded_blocks (flat_program flat) (threads_from (t + 1) (length flat.threads - (t + 1))) ≡ all
-thread_turn flat threads n t code before after all is words lt at old new =
+thread_turn flat threads {n} {t} {code} before {all} is words lt at old new =
     let lt' : t < length flat.threads = subst (λ (xs : List (List Marked)). t < length xs) is lt in
     let at' : code ≡ get_or flat.threads t code = subst (λ (xs : List (List Marked)). code ≡ get_or xs t code) is at in
     let here : code_of (flat_program flat) t ≡ map marked code = at_map flat.threads t code lt' at' in
@@ -47,10 +47,10 @@ thread_turn flat threads n t code before after all is words lt at old new =
     subst (λ (x : List Statement). x ++ rest ≡ all) (sym new) (append_assoc before (head n t (map marked code) ++ encoded n t 0 (map marked code)) rest ∙ named)
 
 -- at the end nothing is left of the round
-pub threads_done : (flat : Flat) (threads : List (List Marked)) (t : ℕ) (before all : List Statement) → threads ≡ flat.threads → length threads ≤ t
+pub threads_done : (flat : Flat) (threads : List (List Marked)) {t : ℕ} {before all : List Statement} → threads ≡ flat.threads → length threads ≤ t
     → before ++ encoded_blocks (flat_program flat) (threads_from t (length flat.threads - t)) ≡ all → before ≡ all
 unfolding encoded_blocks
-threads_done flat threads t before all is h old =
+threads_done flat threads {t} {before} {all} is h old =
     let h' : length flat.threads ≤ t = subst (λ (xs : List (List Marked)). length xs ≤ t) is h in
     let none : length flat.threads - t ≡ 0 = omega arith in
     sym (append-nil before) ∙ subst (λ (k : ℕ). before ++ encoded_blocks (flat_program flat) (threads_from t k) ≡ all) none old
@@ -68,10 +68,10 @@ abbrev pub rounds_left : Flat → ℕ → List Statement
 rounds_left flat rounds = encoded_blocks (flat_program flat) (blocks rounds (length flat.threads))
 
 -- a turn that adds a round keeps what is left
-pub round_turn : (flat : Flat) (r rounds : ℕ) (before after all : List Statement) → r < rounds
+pub round_turn : (flat : Flat) {r rounds : ℕ} (before : List Statement) {after all : List Statement} → r < rounds
     → before ++ rounds_left flat (rounds - r) ≡ all → after ≡ before ++ encoded_blocks (flat_program flat) (threads_from 0 (length flat.threads))
     → after ++ rounds_left flat (rounds - (r + 1)) ≡ all
-round_turn flat r rounds before after all lt old new =
+round_turn flat {r} {rounds} before {all} lt old new =
     let one : rounds - r ≡ suc (rounds - (r + 1)) = omega arith in
     let whole : before ++ rounds_left flat (suc (rounds - (r + 1))) ≡ all = subst (λ (k : ℕ). before ++ rounds_left flat k ≡ all) one old in
     let apart = ap (λ (x : List Statement). before ++ x) (blocks_append (flat_program flat) (threads_from 0 (length flat.threads)) (blocks (rounds - (r + 1)) (length flat.threads))) in

@@ -14,8 +14,8 @@ use Rattle.lz_machine.specs.Held.{caller_of, callers_of}
 pub callers_end : (ys : List Caller) (x : Caller) → callers_of (ys ++ x ∷ []) ≡ caller_of x ∷ callers_of ys
 callers_end ys x = ap reverse (map-append caller_of ys (x ∷ [])) ∙ reverse-append (map caller_of ys) (caller_of x ∷ [])
 
-pub callers_popped : (xs ys : List Caller) (x : Caller) → xs ≡ ys ++ x ∷ [] → callers_of xs ≡ caller_of x ∷ callers_of ys
-callers_popped xs ys x e = ap callers_of e ∙ callers_end ys x
+pub callers_popped : {xs : List Caller} (ys : List Caller) (x : Caller) → xs ≡ ys ++ x ∷ [] → callers_of xs ≡ caller_of x ∷ callers_of ys
+callers_popped ys x e = ap callers_of e ∙ callers_end ys x
 
 -- ---- functions by their numbers
 

@@ -10,8 +10,8 @@ passed_same (from ∷ froms) [] vs = refl
 passed_same (from ∷ froms) (to ∷ tos) [] = refl
 passed_same (from ∷ froms) (to ∷ tos) (v ∷ vs) = ap (λ (x : List ℕ). v ∷ x) (passed_same froms tos vs)
 
-pub set_same : (xs ys : List ℕ) (i x d : ℕ) → xs ≡ ys → x ≡ get_or xs i d → set xs i x ≡ ys
-set_same xs ys i x d e is = ap (λ (y : ℕ). set xs i y) is ∙ (set-get_or xs i d ∙ e)
+pub set_same : {xs ys : List ℕ} (i : ℕ) {x : ℕ} (d : ℕ) → xs ≡ ys → x ≡ get_or xs i d → set xs i x ≡ ys
+set_same {xs} i d e is = ap (λ (y : ℕ). set xs i y) is ∙ (set-get_or xs i d ∙ e)
 
-pub are_passed : (froms tos : List IntType) (xs vs : List ℕ) → xs ≡ vs → xs ≡ passed froms tos vs
-are_passed froms tos xs vs e = e ∙ sym (passed_same froms tos vs)
+pub are_passed : (froms tos : List IntType) {xs vs : List ℕ} → xs ≡ vs → xs ≡ passed froms tos vs
+are_passed froms tos {vs} e = e ∙ sym (passed_same froms tos vs)

@@ -1,5 +1,5 @@
 -- Each call and each return makes a thread lighter: a function stands behind those that it calls.
-use Rattle.std.proofs.Common.{◌≡◌, ℕ, zero, suc, ◌+◌, ◌*◌, ◌<◌, ◌≤◌, max, ◌⊎◌, inl, inr, Bool, true, false, List, [], ◌∷◌, length, get_or, slice_index, All, refl, sym, ◌∙◌, ap, subst, arith, if◌then◌else◌, ◌==◌}
+use Rattle.std.proofs.Common.{◌≡◌, ℕ, zero, suc, ◌+◌, ◌*◌, ◌<◌, ◌≤◌, ◌⊎◌, inl, inr, true, false, List, [], ◌∷◌, length, get_or, slice_index, refl, sym, ◌∙◌, subst, arith, if◌then◌else◌, ◌==◌}
 use Rattle.std.specs.List.{Contains}
 use Rattle.std.proofs.lemmas.Nat.{mul-le}
 use Rattle.std.proofs.lemmas.Bool.{cases_eq}
@@ -110,12 +110,12 @@ call_lighter p order n less frame next callee callers o h same called starts fal
     let left = statement_left n next.footing (function_at p frame.function).body in
     let was = statement_left n frame.footing (function_at p frame.function).body in
     let times : suc left * suc own ≤ was * suc own = mul-le _ _ _ _ (omega (arith, falls)) (omega arith) in
-    let under : suc (statement_left n callee.footing (function_at p callee.function).body * suc inner) ≤ own = up _ _ _ product low in
+    let under : suc (statement_left n callee.footing (function_at p callee.function).body * suc inner) ≤ own = up product low in
     let sum = lighter_sum (was * suc own) (left * suc own) left was (statement_left n callee.footing (function_at p callee.function).body * suc inner) own (weight p order n callers) 0 falls refl refl under times (suc_times left (suc own)) in
     subst (λ (f : ℕ). suc (statement_left n callee.footing (function_at p callee.function).body * suc inner) + (suc (statement_left n next.footing (function_at p f).body * suc (weight_before most (place order f))) + weight p order n callers) < suc (was * suc own) + weight p order n callers) (sym same) sum
   where
-    up : (a b c : ℕ) → a ≤ b → suc b ≤ c → suc a ≤ c
-    up a b c h k = omega (arith, h, k)
+    up : {a b c : ℕ} → a ≤ b → suc b ≤ c → suc a ≤ c
+    up h k = omega (arith, h, k)
 
 pub return_lighter : (p : ScopedProgram) (order : List ℕ) (n : ℕ) (frame : Frame) (callers : List Frame) → weight p order n callers < weight p order n (frame ∷ callers)
 return_lighter p order n frame callers = by (statement_left n frame.footing (function_at p frame.function).body * suc (weight_before (most_of_all n p.functions) (place order frame.function))) (weight p order n callers)

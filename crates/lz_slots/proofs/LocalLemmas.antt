@@ -50,13 +50,13 @@ function_sites_alike functions turns v w same f =
     through_alike (sites_step functions turns v) (sites_step functions turns w) (λ p q x each. statement_sites_agree (record { sees = sees_saturated; turns = refl; weights = same }) (body_at functions x) (record { at = λ y called. each y })) (length functions) f
 
 -- a thread for `main` and those that it creates, in each round
-pub rounds_sum : (rounds bodies starts body own start all result : ℕ) → body ≡ bodies → own ≡ saturated (thread_number + body) → start ≡ starts → all ≡ saturated (own + start) → result ≡ saturated (rounds * all) → result ≡ saturated (rounds * (thread_number + bodies + starts))
-rounds_sum rounds bodies starts body own start all result is_body is_own is_start is_all is_result =
+pub rounds_sum : (rounds : ℕ) {bodies starts body own start all result : ℕ} → body ≡ bodies → own ≡ saturated (thread_number + body) → start ≡ starts → all ≡ saturated (own + start) → result ≡ saturated (rounds * all) → result ≡ saturated (rounds * (thread_number + bodies + starts))
+rounds_sum rounds {bodies} {starts} {all} is_body is_own is_start is_all is_result =
     let alike : saturated all ≡ saturated (thread_number + bodies + starts) = omega arith in
     is_result ∙ saturated_product rounds all (thread_number + bodies + starts) alike
 
-same_sum : (a b c d : ℕ) → a ≡ saturated b → c ≡ saturated d → saturated (thread_number + a + c) ≡ saturated (thread_number + b + d)
-same_sum a b c d left right = omega arith
+same_sum : {a : ℕ} (b : ℕ) {c : ℕ} (d : ℕ) → a ≡ saturated b → c ≡ saturated d → saturated (thread_number + a + c) ≡ saturated (thread_number + b + d)
+same_sum b d left right = omega arith
 
 one_more : (s threads n : ℕ) → s ≡ saturated n → threads ≡ saturated (s + 1) → saturated threads ≡ saturated (n + 1)
 one_more s threads n is_s is_threads = omega arith
@@ -74,4 +74,4 @@ cost_made program turns rounds s threads bodies starts result is_s is_threads ar
     let start : slice_index starts program.main ≡ saturated (function_sites program.functions turns (thread_cost program.functions turns exact) program.main) =
     are_starts program.main
     ∙ function_sites_alike program.functions turns (weight_of Thread bodies) (thread_cost program.functions turns exact) (λ x. in_a_thread _ _ (body x)) program.main in
-    is ∙ saturated_product rounds _ _ (same_sum _ _ _ _ (body program.main) start)
+    is ∙ saturated_product rounds _ _ (same_sum _ _ (body program.main) start)

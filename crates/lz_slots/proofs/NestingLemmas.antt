@@ -37,8 +37,8 @@ pub record AreNumbers (order : List ℕ) (exact : ℕ → ℕ) (i : ℕ) (number
 pub numbers_start : (order : List ℕ) (exact : ℕ → ℕ) (numbers : List ℕ) → AreNumbers order exact 0 numbers
 numbers_start order exact numbers = record { known = λ j low. absurd (omega arith) }
 
-saturated_twice : (a b c : ℕ) → a ≡ saturated b → c ≡ b → saturated a ≡ saturated c
-saturated_twice a b c one two = omega arith
+saturated_twice : {a b c : ℕ} → a ≡ saturated b → c ≡ b → saturated a ≡ saturated c
+saturated_twice one two = omega arith
 
 -- from the numbers that are known, the next function's comes out right
 worth : {functions : List ScopedDefinition} {order : List ℕ} {step : (ℕ → ℕ) → ℕ → ℕ} → IsCallOrder functions order → IsLocal functions step → (n i : ℕ) (numbers : List ℕ) → n ≡ length order → i < length order → AreNumbers order (through_calls step n) i numbers → saturated (step (slice_index numbers) (slice_index order i)) ≡ saturated (through_calls step n (slice_index order i))
@@ -49,7 +49,7 @@ worth {functions = functions} {order = order} {step = step} o l (suc n) i number
           let stands : StandsBefore order i y = All-contains (StandsBefore order i) (calls_of functions (slice_index order i)) y (o.behind i within) called in
           let before : stands.0 < i = stands.1 in
           let steady : through_calls step n (slice_index order stands.0) ≡ through_calls step (suc n) (slice_index order stands.0) = settled o l (suc n) stands.0 n (omega arith) (omega arith) (omega arith) in
-          subst (λ (z : ℕ). saturated (slice_index numbers z) ≡ saturated (through_calls step n z)) stands.2 (saturated_twice _ _ _ (known.known stands.0 before) steady);
+          subst (λ (z : ℕ). saturated (slice_index numbers z) ≡ saturated (through_calls step n z)) stands.2 (saturated_twice (known.known stands.0 before) steady);
     })
 
 -- one turn

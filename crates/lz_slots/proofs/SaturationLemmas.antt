@@ -18,8 +18,8 @@ pub saturated_sum : (a b c d : ℕ) → saturated a ≡ saturated c → saturate
 saturated_sum a b c d left right = omega arith
 
 -- what the turns of a loop and its end come to
-pub saturated_loop : (turns test body exact_test exact_body parts turn all end result : ℕ) → test ≡ saturated exact_test → body ≡ saturated exact_body → parts ≡ saturated (test + body) → turn ≡ saturated (turn_number + parts) → all ≡ saturated (turns * turn) → end ≡ saturated (turn_number + test) → result ≡ saturated (all + end) → result ≡ saturated (turns * (turn_number + exact_test + exact_body) + turn_number + exact_test)
-saturated_loop turns test body exact_test exact_body parts turn all end result is_test is_body is_parts is_turn is_all is_end is_result =
+pub saturated_loop : (turns : ℕ) {test body : ℕ} (exact_test exact_body : ℕ) {parts turn all end result : ℕ} → test ≡ saturated exact_test → body ≡ saturated exact_body → parts ≡ saturated (test + body) → turn ≡ saturated (turn_number + parts) → all ≡ saturated (turns * turn) → end ≡ saturated (turn_number + test) → result ≡ saturated (all + end) → result ≡ saturated (turns * (turn_number + exact_test + exact_body) + turn_number + exact_test)
+saturated_loop turns exact_test exact_body {turn} is_test is_body is_parts is_turn is_all is_end is_result =
     let alike : saturated turn ≡ saturated (turn_number + exact_test + exact_body) = omega arith in
     let product = saturated_product turns turn (turn_number + exact_test + exact_body) alike in
     omega (arith, product)

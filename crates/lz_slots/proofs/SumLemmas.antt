@@ -63,8 +63,8 @@ sum_turn f xs at sum new item x lt is so_far one made =
     record { whole = omega arith; low = omega arith }
 
 -- at the end it is the whole
-pub sum_end : {A : Type 0} (f : A → ℕ) (xs : List A) (at sum : ℕ) → at ≡ length xs → IsSumSoFar f xs at sum → sum ≡ saturated (total f xs)
-sum_end {A = A} f xs at sum end so_far =
+pub sum_end : {A : Type 0} {f : A → ℕ} {xs : List A} {at sum : ℕ} → at ≡ length xs → IsSumSoFar f xs at sum → sum ≡ saturated (total f xs)
+sum_end {A = A} {f} {xs} {at} {sum} end so_far =
     let gone : drop at xs ≡ [] = rw end (drop-length xs) in
     let before : saturated (sum + total f (drop at xs)) ≡ saturated (total f xs) = so_far.whole in
     let none : total f (drop at xs) ≡ 0 = ap (total f) gone in

@@ -228,8 +228,8 @@ unfolding begin
 begun_words first p e = ap (λ (x : Progress). length x.drawn.words) e ∙ first_length first
 
 -- what was made is what is constructed
-pub made_is : (list : List Statement) (first : List ℕ) (p q : Progress) → p ≡ begin first → q ≡ statements_made 0 list p → q ≡ constructed (record { list = list; first = first })
-made_is list first p q e f = f ∙ ap (statements_made 0 list) e
+pub made_is : (list : List Statement) (first : List ℕ) {p q : Progress} → p ≡ begin first → q ≡ statements_made 0 list p → q ≡ constructed (record { list = list; first = first })
+made_is list first e f = f ∙ ap (statements_made 0 list) e
 
 -- the clauses, of any progress that is what is constructed
 pub made_fails : (program : StraightProgram) (count : ℕ) (q : Progress) → q ≡ constructed program → IsWellFormed program → length program.first ≤ 4294967296

@@ -12,11 +12,11 @@ unfolding compare_from
 compare_step node number step more compared = refl
 
 -- one turn of the comparisons
-pub compare_turn : (node step count i : ℕ) (so_far all : Compared) (drawn : Drawn) (tests : List ℕ) → i < count
+pub compare_turn : (node step : ℕ) {count i : ℕ} (so_far : Compared) {all : Compared} {drawn : Drawn} {tests : List ℕ} → i < count
     → compare_from node (i * step) step (count - i) so_far ≡ all
     → drawn ≡ (compared_with so_far.tests (equals node (i * step) so_far.drawn)).drawn → tests ≡ (compared_with so_far.tests (equals node (i * step) so_far.drawn)).tests
     → compare_from node ((i + 1) * step) step (count - (i + 1)) (record { drawn = drawn; tests = tests }) ≡ all
-compare_turn node step count i so_far all drawn tests lt old drawn_is tests_is =
+compare_turn node step {count} {i} so_far {all} {drawn} {tests} lt old drawn_is tests_is =
     let one : count - i ≡ suc (count - (i + 1)) = omega arith in
     let next_number : i * step + step ≡ (i + 1) * step = grind arith in
     let one_more = compared_with so_far.tests (equals node (i * step) so_far.drawn) in
@@ -27,9 +27,9 @@ compare_turn node step count i so_far all drawn tests lt old drawn_is tests_is =
     (subst (λ (t : List ℕ). compare_from node ((i + 1) * step) step (count - (i + 1)) (record { drawn = one_more.drawn; tests = t }) ≡ all) (sym tests_is) base)
 
 -- behind the last comparison
-pub compare_end : (node step count i : ℕ) (so_far all : Compared) → count ≤ i → compare_from node (i * step) step (count - i) so_far ≡ all → so_far ≡ all
+pub compare_end : (node step : ℕ) {count : ℕ} (i : ℕ) {so_far all : Compared} → count ≤ i → compare_from node (i * step) step (count - i) so_far ≡ all → so_far ≡ all
 unfolding compare_from
-compare_end node step count i so_far all h old =
+compare_end node step {count} i {so_far} {all} h old =
     let none : count - i ≡ 0 = omega arith in
     subst (λ (k : ℕ). compare_from node (i * step) step k so_far ≡ all) none old
 
@@ -41,11 +41,11 @@ unfolding read_from
 read_step decoder first place more so_far = refl
 
 -- one turn of a read
-pub read_turns : (decoder : Decoder) (first len place : ℕ) (so_far all : With) (drawn : Drawn) (node : ℕ) → place < len
+pub read_turns : (decoder : Decoder) (first : ℕ) {len place : ℕ} (so_far : With) {all : With} {drawn : Drawn} {node : ℕ} → place < len
     → read_from decoder first place (len - place) so_far ≡ all
     → drawn ≡ (read_turn decoder first place so_far).drawn → node ≡ (read_turn decoder first place so_far).node
     → read_from decoder first (place + 1) (len - (place + 1)) (record { drawn = drawn; node = node }) ≡ all
-read_turns decoder first len place so_far all drawn node lt old drawn_is node_is =
+read_turns decoder first {len} {place} so_far {all} {drawn} {node} lt old drawn_is node_is =
     let one : len - place ≡ suc (len - (place + 1)) = omega arith in
     let next_place : suc place ≡ place + 1 = omega arith in
     let turn = read_turn decoder first place so_far in
@@ -56,9 +56,9 @@ read_turns decoder first len place so_far all drawn node lt old drawn_is node_is
     (subst (λ (n : ℕ). read_from decoder first (place + 1) (len - (place + 1)) (record { drawn = turn.drawn; node = n }) ≡ all) (sym node_is) base)
 
 -- behind the last place of a read
-pub read_ends : (decoder : Decoder) (first len place : ℕ) (so_far all : With) → len ≤ place → read_from decoder first place (len - place) so_far ≡ all → so_far ≡ all
+pub read_ends : (decoder : Decoder) (first : ℕ) {len : ℕ} (place : ℕ) {so_far all : With} → len ≤ place → read_from decoder first place (len - place) so_far ≡ all → so_far ≡ all
 unfolding read_from
-read_ends decoder first len place so_far all h old =
+read_ends decoder first {len} place {so_far} {all} h old =
     let none : len - place ≡ 0 = omega arith in
     subst (λ (k : ℕ). read_from decoder first place k so_far ≡ all) none old
 
@@ -71,18 +71,18 @@ unfolding write_from
 write_step decoder first guard value place more so_far = refl
 
 -- one turn of a write
-pub write_turns : (decoder : Decoder) (first guard value len place : ℕ) (so_far after all : Drawn) → place < len
+pub write_turns : (decoder : Decoder) (first guard value : ℕ) {len place : ℕ} (so_far : Drawn) {after all : Drawn} → place < len
     → write_from decoder first guard value place (len - place) so_far ≡ all → after ≡ write_turn decoder first guard value place so_far
     → write_from decoder first guard value (place + 1) (len - (place + 1)) after ≡ all
-write_turns decoder first guard value len place so_far after all lt old is =
+write_turns decoder first guard value {len} {place} so_far {all} lt old is =
     let one : len - place ≡ suc (len - (place + 1)) = omega arith in
     let next_place : suc place ≡ place + 1 = omega arith in
     rw is (subst (λ (k : ℕ). write_from decoder first guard value k (len - (place + 1)) (write_turn decoder first guard value place so_far) ≡ all) next_place
     (sym (write_step decoder first guard value place (len - (place + 1)) so_far) ∙ subst (λ (k : ℕ). write_from decoder first guard value place k so_far ≡ all) one old))
 
 -- behind the last place of a write
-pub write_ends : (decoder : Decoder) (first guard value len place : ℕ) (so_far all : Drawn) → len ≤ place → write_from decoder first guard value place (len - place) so_far ≡ all → so_far ≡ all
+pub write_ends : (decoder : Decoder) (first guard value : ℕ) {len : ℕ} (place : ℕ) {so_far all : Drawn} → len ≤ place → write_from decoder first guard value place (len - place) so_far ≡ all → so_far ≡ all
 unfolding write_from
-write_ends decoder first guard value len place so_far all h old =
+write_ends decoder first guard value {len} place {so_far} {all} h old =
     let none : len - place ≡ 0 = omega arith in
     subst (λ (k : ℕ). write_from decoder first guard value place k so_far ≡ all) none old

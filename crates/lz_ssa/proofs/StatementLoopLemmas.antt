@@ -11,10 +11,10 @@ unfolding statements_made
 statements_step i first rest so_far = refl
 
 -- one turn of the statements
-pub statements_turn : (list : List Guarded) (i : ℕ) (next : Guarded) (so_far after all : Progress) → i < length list → next ≡ get_or list i next
+pub statements_turn : (list : List Guarded) (i : ℕ) (next : Guarded) (so_far : Progress) {after all : Progress} → i < length list → next ≡ get_or list i next
     → statements_made i (map statement (drop i list)) so_far ≡ all → after ≡ statement_made i (statement next) so_far
     → statements_made (i + 1) (map statement (drop (i + 1) list)) after ≡ all
-statements_turn list i next so_far after all lt e old is =
+statements_turn list i next so_far {all} lt e old is =
     let more : drop i list ≡ next ∷ drop (i + 1) list = drop_more list i next lt ∙ ap (λ (x : Guarded). x ∷ drop (i + 1) list) (sym e) in
     let rest = map statement (drop (i + 1) list) in
     let here : statements_made i (statement next ∷ rest) so_far ≡ all = subst (λ (part : List Guarded). statements_made i (map statement part) so_far ≡ all) more old in

@@ -1,5 +1,5 @@
 -- What the slots of a folder hold after one of them changed.
-use Rattle.std.proofs.Common.{◌≡◌, ℕ, ◌+◌, ◌<◌, ◌≤◌, List, [], ◌∷◌, ◌++◌, length, Option, Some, None, get_or, set, map, take, refl, ap, sym, ◌∙◌, subst, arith, true, false, suc, zero}
+use Rattle.std.proofs.Common.{◌≡◌, ℕ, ◌+◌, ◌<◌, ◌≤◌, List, [], ◌∷◌, ◌++◌, length, Option, Some, None, get_or, set, map, take, ap, sym, ◌∙◌, arith, true, false, suc, zero}
 use Rattle.std.specs.List.{All}
 use Rattle.std.proofs.lemmas.List.Elements.{All-append}
 use Rattle.std.specs.Option.{OnSome, is_some}
@@ -35,10 +35,10 @@ file_at used place slots d h k =
     get_or-map file_of (take used slots) place d (file_of d) (omega (arith, length-take-le used slots k))
     ∙ ap file_of (get_or-take used slots place d h)
 
-pub found_slot : (l : List File) (name : List ℕ) (used place : ℕ) (slots : List Slot) →
+pub found_slot : {l : List File} {name : List ℕ} {used place : ℕ} {slots : List Slot} →
     files_of used slots ≡ l → used ≤ length slots → place_from 0 l name ≡ Some place →
     HoldsFile l name used place slots
-found_slot l name used place slots v u h =
+found_slot {l} {name} {used} {place} {slots} v u h =
     let s : StandsAt l name place = found l place name h in
     let w : place < used = omega (arith, s.within, ap (λ (x : List File). length x) v, length-files_of used slots u) in
     let at : (d : Slot) → get_or l place (file_of d) ≡ file_of (get_or slots place d) =
@@ -80,9 +80,9 @@ missing None l name h s = content_of-none l 0 name (sym h)
 missing (Some p) l name h s = cc
 
 -- a search in the slots in use is one in the files
-pub place_in : (r : Option ℕ) (l : List File) (name : List ℕ) (used : ℕ) (xs ys : List Slot) →
+pub place_in : {r : Option ℕ} {l : List File} (name : List ℕ) (used : ℕ) {xs ys : List Slot} →
     r ≡ place_from 0 (files_of used xs) name → xs ≡ ys → files_of used ys ≡ l → r ≡ place_from 0 l name
-place_in r l name used xs ys h e v =
+place_in name used h e v =
     h ∙ ap (λ (x : List Slot). place_from 0 (files_of used x) name) e
     ∙ ap (λ (x : List File). place_from 0 x name) v
 

@@ -15,7 +15,7 @@ in_expression-returns-in-Call t c =
 
 pub in_expressions-returns-in-Some : goal.in_expressions-returns-in-Some
 in_expressions-returns-in-Some t c =
-    walk_found _ _ _ _ _ _ (omega arith) c.item-item.is c.loop-item.invariant c.in_expression.ensures c.in-Some.is ∙ sym (expressions_of scoped_expression c.args.items.now)
+    walk_found (omega arith) c.item-item.is c.loop-item.invariant c.in_expression.ensures c.in-Some.is ∙ sym (expressions_of scoped_expression c.args.items.now)
 
 pub in_expressions-returns : goal.in_expressions-returns
-in_expressions-returns t c = walk_end _ _ _ (omega arith) c.loop-item.invariant ∙ sym (expressions_of scoped_expression c.args.items.now)
+in_expressions-returns t c = walk_end (omega arith) c.loop-item.invariant ∙ sym (expressions_of scoped_expression c.args.items.now)

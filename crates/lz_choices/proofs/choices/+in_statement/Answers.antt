@@ -13,7 +13,7 @@ in_statement-returns-in-Block t c =
 
 pub in_statements-returns-in-Some : goal.in_statements-returns-in-Some
 in_statements-returns-in-Some t c =
-    walk_found _ _ _ _ _ _ (omega arith) c.item-item.is c.loop-item.invariant c.in_statement.ensures c.in-Some.is ∙ sym (statements_of scoped_statement c.args.items.now)
+    walk_found (omega arith) c.item-item.is c.loop-item.invariant c.in_statement.ensures c.in-Some.is ∙ sym (statements_of scoped_statement c.args.items.now)
 
 pub in_statements-returns : goal.in_statements-returns
-in_statements-returns t c = walk_end _ _ _ (omega arith) c.loop-item.invariant ∙ sym (statements_of scoped_statement c.args.items.now)
+in_statements-returns t c = walk_end (omega arith) c.loop-item.invariant ∙ sym (statements_of scoped_statement c.args.items.now)

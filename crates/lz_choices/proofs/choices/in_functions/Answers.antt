@@ -5,7 +5,7 @@ use Rattle.lz_choices.proofs.choices.in_functions.Goals as goal
 
 pub returns-in-Some : goal.returns-in-Some
 returns-in-Some c =
-    walk_found _ _ _ _ _ _ (omega arith) c.item-item.is c.loop-item.invariant c.in_statement.ensures c.in-Some.is ∙ sym (functions_of scoped_definition c.args.items.now)
+    walk_found (omega arith) c.item-item.is c.loop-item.invariant c.in_statement.ensures c.in-Some.is ∙ sym (functions_of scoped_definition c.args.items.now)
 
 pub returns : goal.returns
-returns c = walk_end _ _ _ (omega arith) c.loop-item.invariant ∙ sym (functions_of scoped_definition c.args.items.now)
+returns c = walk_end (omega arith) c.loop-item.invariant ∙ sym (functions_of scoped_definition c.args.items.now)

@@ -12,4 +12,4 @@ expression_fits-returns-in-Call t c =
     rw given c.all_fit.ensures
 
 pub all_fit-returns : goal.all_fit-returns
-all_fit-returns t c = walk_end _ _ _ _ (omega arith) c.loop-item.invariant ∙ sym (all_of scoped_expression c.args.items.now)
+all_fit-returns t c = walk_end (omega arith) c.loop-item.invariant ∙ sym (all_of scoped_expression c.args.items.now)

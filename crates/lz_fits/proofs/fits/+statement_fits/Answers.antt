@@ -12,4 +12,4 @@ statement_fits-returns-in-Block t c =
     rw given c.parts_fit.ensures
 
 pub parts_fit-returns : goal.parts_fit-returns
-parts_fit-returns t c = walk_end _ _ _ _ (omega arith) c.loop-item.invariant ∙ sym (parts_of scoped_statement c.args.items.now)
+parts_fit-returns t c = walk_end (omega arith) c.loop-item.invariant ∙ sym (parts_of scoped_statement c.args.items.now)

@@ -5,7 +5,7 @@ use Rattle.lz_flat.proofs.step.run_on.Goals as goal
 
 pub returns-then-next-clause-runs : goal.returns-then-next-clause-runs
 returns-then-next-clause-runs c =
-    let ends = left_stops _ _ _ _ _ _ _ c.index-code-at.result c.loop-at.invariant c.loop-at-test.true c.index-code-at.is c.if-next.true in
+    let ends = left_stops c.index-code-at.result c.loop-at.invariant c.loop-at-test.true c.index-code-at.is c.if-next.true in
     (ends.led, ends.count)
 
 pub perform-requires-clause-within : goal.perform-requires-clause-within
@@ -15,14 +15,14 @@ perform-requires-clause-within c =
 
 pub loop-at-preserved : goal.loop-at-preserved
 loop-at-preserved c =
-    left_moves _ _ _ _ _ _ _ _ c.index-code-at.result c.in_ok-over.over _ c.loop-at.invariant c.requires.code c.loop-at-test.true c.index-code-at.is c.if-next.false c.in_ok-over.ensures.performs c.in_ok-over.ensures.words (omega arith)
+    left_moves c.index-code-at.result c.in_ok-over.over _ c.loop-at.invariant c.requires.code c.loop-at-test.true c.index-code-at.is c.if-next.false c.in_ok-over.ensures.performs c.in_ok-over.ensures.words (omega arith)
 
 pub returns-in_err-over-clause-runs : goal.returns-in_err-over-clause-runs
 returns-in_err-over-clause-runs c =
     let p = err_from_is_err_and c.from_residual.result c.from_residual.ensures.1 in
-    rw (p.1, p.2) (left_halts _ _ _ _ _ _ _ _ c.index-code-at.result _ _ c.loop-at.invariant c.requires.code c.loop-at-test.true c.index-code-at.is c.if-next.false c.in_err-over.ensures.performs)
+    rw (p.1, p.2) (left_halts _ c.index-code-at.result _ _ c.loop-at.invariant c.requires.code c.loop-at-test.true c.index-code-at.is c.if-next.false c.in_err-over.ensures.performs)
 
 pub returns-clause-runs : goal.returns-clause-runs
 returns-clause-runs c =
-    let ends = left_ends _ _ _ _ _ _ _ c.loop-at.invariant (omega arith) in
+    let ends = left_ends c.loop-at.invariant (omega arith) in
     (ends.led, ends.count)

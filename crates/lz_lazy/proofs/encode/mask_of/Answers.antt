@@ -6,10 +6,10 @@ pub loop-init : goal.loop-init
 loop-init c = mask_begins c.args.size
 
 pub wider_mask-mask-requires : goal.wider_mask-mask-requires
-wider_mask-mask-requires c = mask_below _ _ _ c.loop.invariant
+wider_mask-mask-requires c = mask_below c.loop.invariant
 
 pub loop-preserved : goal.loop-preserved
-loop-preserved c = mask_turns _ _ _ _ c.loop.invariant (omega arith) c.wider_mask-mask.ensures
+loop-preserved c = mask_turns c.loop.invariant (omega arith) c.wider_mask-mask.ensures
 
 pub returns : goal.returns
-returns c = mask_found _ _ _ c.loop.invariant (omega arith)
+returns c = mask_found c.loop.invariant (omega arith)

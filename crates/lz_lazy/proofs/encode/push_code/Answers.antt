@@ -4,7 +4,7 @@ use Rattle.lz_lazy.proofs.encode.push_code.Goals as goal
 
 pub loop-l-preserved : goal.loop-l-preserved
 loop-l-preserved c =
-    one_turn _ _ _ _ _ _ _ _ c.loop-l-test.true c.index-code-l.is c.loop-l.invariant c.in_ok-push_three.ensures
+    one_turn _ _ _ _ c.loop-l-test.true c.index-code-l.is c.loop-l.invariant c.in_ok-push_three.ensures
 
 pub returns : goal.returns
-returns c = no_more _ _ _ c.args.code.now _ _ (omega arith) c.loop-l.invariant
+returns c = no_more _ _ c.args.code.now (omega arith) c.loop-l.invariant

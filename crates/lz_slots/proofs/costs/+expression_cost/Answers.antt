@@ -27,5 +27,5 @@ expression_cost-returns-in-Call t c =
 pub expressions_cost-returns : goal.expressions_cost-returns
 expressions_cost-returns t c =
     let r : Rates = rates_of c.args.rates.now.turns c.args.rates.now.threads c.args.rates.now.bodies.now in
-    let end = sum_end _ _ _ _ (omega arith) c.loop-item.invariant in
+    let end = sum_end (omega arith) c.loop-item.invariant in
     end ∙ ap saturated (sym (expressions_cost-of r scoped_expression c.args.items.now))

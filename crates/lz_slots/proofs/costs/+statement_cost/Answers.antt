@@ -10,7 +10,7 @@ use Rattle.lz_slots.proofs.costs.+statement_cost.Goals as goal
 pub parts_cost-returns : goal.parts_cost-returns
 parts_cost-returns t c =
     let r : Rates = rates_of c.args.rates.now.turns c.args.rates.now.threads c.args.rates.now.bodies.now in
-    let end = sum_end _ _ _ _ (omega arith) c.loop-item.invariant in
+    let end = sum_end (omega arith) c.loop-item.invariant in
     end ∙ ap saturated (sym (statements_cost-of r scoped_statement c.args.items.now))
 
 pub statement_cost-returns-in-Block : goal.statement_cost-returns-in-Block

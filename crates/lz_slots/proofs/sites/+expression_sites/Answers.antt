@@ -17,5 +17,5 @@ expression_sites-returns-in-Call t c =
 pub expressions_sites-returns : goal.expressions_sites-returns
 expressions_sites-returns t c =
     let r : SiteRates = site_rates_of c.args.rates.now.turns c.args.rates.now.weight c.args.rates.now.costs.now c.args.rates.now.bodies.now in
-    let end = sum_end _ _ _ _ (omega arith) c.loop-item.invariant in
+    let end = sum_end (omega arith) c.loop-item.invariant in
     end ∙ ap saturated (sym (expressions_sites-of r scoped_expression c.args.items.now))

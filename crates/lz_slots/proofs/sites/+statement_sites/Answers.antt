@@ -10,7 +10,7 @@ use Rattle.lz_slots.proofs.sites.+statement_sites.Goals as goal
 pub parts_sites-returns : goal.parts_sites-returns
 parts_sites-returns t c =
     let r : SiteRates = site_rates_of c.args.rates.now.turns c.args.rates.now.weight c.args.rates.now.costs.now c.args.rates.now.bodies.now in
-    let end = sum_end _ _ _ _ (omega arith) c.loop-item.invariant in
+    let end = sum_end (omega arith) c.loop-item.invariant in
     end ∙ ap saturated (sym (statements_sites-of r scoped_statement c.args.items.now))
 
 pub statement_sites-returns-in-Block : goal.statement_sites-returns-in-Block

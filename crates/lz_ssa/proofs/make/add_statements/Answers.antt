@@ -9,7 +9,7 @@ statement-requires-clause-within c =
 
 pub loop-i-preserved : goal.loop-i-preserved
 loop-i-preserved c =
-    (statements_turn _ c.loop-i.i c.index-list-i.result _ _ _ c.loop-i-test.true c.index-list-i.is c.loop-i.invariant.0 c.in_ok-statement.ensures.made, omega arith)
+    (statements_turn _ c.loop-i.i c.index-list-i.result _ c.loop-i-test.true c.index-list-i.is c.loop-i.invariant.0 c.in_ok-statement.ensures.made, omega arith)
 
 pub returns : goal.returns
 returns c = statements_end _ c.loop-i.i _ _ (omega arith) c.loop-i.invariant.0

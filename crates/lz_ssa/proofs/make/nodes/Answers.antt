@@ -34,14 +34,14 @@ pub returns-clause-fails : goal.returns-clause-fails
 returns-clause-fails c =
     let begun = rw c.items.ensures at c.in_ok-building.ensures in
     let made = rw c.items-list.ensures at c.in_ok-add_statements.ensures in
-    let is = made_is _ _ _ _ begun made in
+    let is = made_is _ _ begun made in
     made_fails (straight_program c.args.straight.now) (length c.items-list.result.now) (progress c.add_statements.new.building) is c.requires.formed (omega arith)
 
 pub returns-clause-formed : goal.returns-clause-formed
 returns-clause-formed c =
     let begun = rw c.items.ensures at c.in_ok-building.ensures in
     let made = rw c.items-list.ensures at c.in_ok-add_statements.ensures in
-    let is = made_is _ _ _ _ begun made in
+    let is = made_is _ _ begun made in
     let same : length c.items-list.result.now ≡ length (map statement c.args.straight.now.list) =
     rw c.items-list.ensures (sym (length-map c.args.straight.now.list statement)) in
     made_formed (straight_program c.args.straight.now) (length c.items-list.result.now) (progress c.add_statements.new.building) is c.requires.formed (omega arith) same
@@ -50,6 +50,6 @@ pub returns-clause-weight : goal.returns-clause-weight
 returns-clause-weight c =
     let begun = rw c.items.ensures at c.in_ok-building.ensures in
     let made = rw c.items-list.ensures at c.in_ok-add_statements.ensures in
-    let is = made_is _ _ _ _ begun made in
+    let is = made_is _ _ begun made in
     let same = length-map c.args.straight.now.list statement in
     λ some. made_weighs (straight_program c.args.straight.now) (progress c.add_statements.new.building) is c.requires.formed (omega arith) (omega (arith, same))
