@@ -59,25 +59,25 @@ pub record IsInText (xs : List ℕ) (escaped : Bool) (i : ℕ) : Type 0 where
 pub text_start : (xs : List ℕ) → IsInText xs false 0
 text_start xs = record { whole = now (text_end false xs) }
 
-pub text_turn : (xs : List ℕ) (escaped : Bool) (i : ℕ) → i < length xs → is_newline (get_or xs i 0) ≡ false → quotes (get_or xs i 0) escaped ≡ false → IsInText xs escaped i
+pub text_turn : {xs : List ℕ} {escaped : Bool} {i : ℕ} → i < length xs → is_newline (get_or xs i 0) ≡ false → quotes (get_or xs i 0) escaped ≡ false → IsInText xs escaped i
     → IsInText xs (escapes (get_or xs i 0) escaped) (i + 1)
-text_turn xs escaped i lt line quote so_far =
+text_turn {xs} {escaped} {i} lt line quote so_far =
     let b : ℕ = get_or xs i 0 in
     let more : text_end escaped (drop i xs) ≡ option_map suc (text_end (escapes b escaped) (drop (i + 1) xs)) =
     ap (text_end escaped) (behind xs i lt) ∙ cond-false (is_newline b) _ _ line ∙ cond-false (quotes b escaped) _ _ quote in
     record { whole = later i (text_end (escapes b escaped) (drop (i + 1) xs)) ∙ ap (option_map (λ n. n + i)) (sym more) ∙ so_far.whole }
 
-pub text_line : (xs : List ℕ) (escaped : Bool) (i : ℕ) → i < length xs → is_newline (get_or xs i 0) ≡ true → IsInText xs escaped i → None ≡ text_end false xs
-text_line xs escaped i lt line so_far =
+pub text_line : {xs : List ℕ} {escaped : Bool} {i : ℕ} → i < length xs → is_newline (get_or xs i 0) ≡ true → IsInText xs escaped i → None ≡ text_end false xs
+text_line {xs} {escaped} {i} lt line so_far =
     let none : text_end escaped (drop i xs) ≡ None = ap (text_end escaped) (behind xs i lt) ∙ cond-true (is_newline (get_or xs i 0)) _ _ line in
     ap (option_map (λ n. n + i)) (sym none) ∙ so_far.whole
 
-pub text_found : (xs : List ℕ) (escaped : Bool) (i : ℕ) → i < length xs → is_newline (get_or xs i 0) ≡ false → quotes (get_or xs i 0) escaped ≡ true → IsInText xs escaped i → Some (i + 1) ≡ text_end false xs
-text_found xs escaped i lt line quote so_far =
+pub text_found : {xs : List ℕ} {escaped : Bool} {i : ℕ} → i < length xs → is_newline (get_or xs i 0) ≡ false → quotes (get_or xs i 0) escaped ≡ true → IsInText xs escaped i → Some (i + 1) ≡ text_end false xs
+text_found {xs} {escaped} {i} lt line quote so_far =
     let b : ℕ = get_or xs i 0 in
     let one : text_end escaped (drop i xs) ≡ Some 1 = ap (text_end escaped) (behind xs i lt) ∙ cond-false (is_newline b) _ _ line ∙ cond-true (quotes b escaped) _ _ quote in
     let same : i + 1 ≡ 1 + i = omega arith in
     ap (λ m. Some m) same ∙ ap (option_map (λ n. n + i)) (sym one) ∙ so_far.whole
 
-pub text_over : (xs : List ℕ) (escaped : Bool) (i : ℕ) → length xs ≤ i → IsInText xs escaped i → None ≡ text_end false xs
-text_over xs escaped i le so_far = ap (λ (ys : List ℕ). option_map (λ n. n + i) (text_end escaped ys)) (sym (over xs i le)) ∙ so_far.whole
+pub text_over : {xs : List ℕ} {escaped : Bool} {i : ℕ} → length xs ≤ i → IsInText xs escaped i → None ≡ text_end false xs
+text_over {xs} {escaped} {i} le so_far = ap (λ (ys : List ℕ). option_map (λ n. n + i) (text_end escaped ys)) (sym (over xs i le)) ∙ so_far.whole

@@ -18,8 +18,8 @@ error_of (Ok tokens) e = e
 error_of (Err e) other = e
 
 -- the named place is where the cut stopped
-pub stopped_at : (c : Cut) (p l place line : ℕ) (e : LexError) (given : Result Tokens LexError) → given ≡ Err e → c ≡ stopped p l → e ≡ Bad p l → given ≡ Err (Bad place line) → c ≡ stopped place line
+pub stopped_at : {c : Cut} (p l place line : ℕ) (e : LexError) {given : Result Tokens LexError} → given ≡ Err e → c ≡ stopped p l → e ≡ Bad p l → given ≡ Err (Bad place line) → c ≡ stopped place line
 unfolding place_of line_of error_of
-stopped_at c p l place line e given came stop bad is =
+stopped_at p l place line e came stop bad is =
     let same : Bad p l ≡ Bad place line = sym bad ∙ ap (λ r. error_of r Memory) (sym came ∙ is) in
     stop ∙ ap (λ n. stopped n l) (ap place_of same) ∙ ap (λ n. stopped place n) (ap line_of same)

@@ -111,5 +111,5 @@ abbrev locals_with : (ℕ → ℕ) → (ℕ → ℕ) → Locals
 locals_with f h = record { frame = f; handles = h }
 
 -- the local values, where one of the frame was set
-pub frame_set : (e v : ℕ) (f g h : ℕ → ℕ) → f ≡ put e v g → locals_with f h ≡ set_local e v (locals_with g h)
-frame_set e v f g h is = ap (λ (x : ℕ → ℕ). locals_with x h) is
+pub frame_set : (e v : ℕ) {f : ℕ → ℕ} (g h : ℕ → ℕ) → f ≡ put e v g → locals_with f h ≡ set_local e v (locals_with g h)
+frame_set e v g h is = ap (λ (x : ℕ → ℕ). locals_with x h) is

@@ -176,10 +176,10 @@ pub part_missing : (bound : ℕ) (o : Option ScopedStatement) (footing : Footing
 part_missing bound None footing given before is = refl
 part_missing bound (Some a) footing given before is = absurd cc
 
-pub part_there : (bound : ℕ) (o : Option ScopedStatement) (a : ScopedStatement) (footing : Footing) (given : ℕ) (before after : Locals) (reached : Reached)
+pub part_there : (bound : ℕ) (o : Option ScopedStatement) {a : ScopedStatement} {footing : Footing} (given : ℕ) {before after : Locals} {reached : Reached}
     → Some a ≡ o → StatementComes bound a footing given before reached after → InnerComes bound o footing given before reached after
-part_there bound None a footing given before after reached is h = absurd cc
-part_there bound (Some b) a footing given before after reached is h = let same : a ≡ b = cc in subst (λ (x : ScopedStatement). StatementComes bound x footing given before reached after) same h
+part_there bound None given is h = absurd cc
+part_there bound (Some b) {a} {footing} given {before} {after} {reached} is h = let same : a ≡ b = cc in subst (λ (x : ScopedStatement). StatementComes bound x footing given before reached after) same h
 
 -- an expression is entered
 pub value_entered : (s : ScopedStatement) (station : Station) (before after : Locals) (came : Came) (stepped : Stepped) → PartComes (value_at s station) (stages.at_stage stages.start) 0 before came after → stepped ≡ stepped_by_value station came
@@ -193,9 +193,9 @@ value_entered s station before after came stepped part is =
     }
 
 -- a statement is entered
-pub part_entered : (bound : ℕ) (s : ScopedStatement) (station : Station) (before after : Locals) (reached : Reached) (stepped : Stepped)
+pub part_entered : (bound : ℕ) (s : ScopedStatement) (station : Station) {before after : Locals} (reached : Reached) {stepped : Stepped}
     → InnerComes bound (part_at s station) (at_station at.start) 0 before reached after → stepped ≡ stepped_by_part station reached → EnteredPart bound s station before stepped after
-part_entered bound s station before after reached stepped part is =
+part_entered bound s station {before} {after} reached part is =
     record {
       same = λ p n depth. subst (λ (x : Stepped). Alike (station_moved (calls_within p n depth) bound s (enters_part station)) before (behind_step (calls_within p n depth) bound s x) after) (sym is)
           (part_steps bound s station (at_station at.start) 0 before after reached (part_at s station) refl part p n depth);
@@ -204,9 +204,9 @@ part_entered bound s station before after reached stepped part is =
     }
 
 -- within an expression, and behind it
-pub value_comes : (bound : ℕ) (s : ScopedStatement) (station : Station) (point : Point) (given : ℕ) (before middle after : Locals) (came : Came) (reached : Reached) (stepped : Stepped)
+pub value_comes : (bound : ℕ) (s : ScopedStatement) (station : Station) (point : Point) (given : ℕ) {before middle after : Locals} (came : Came) {reached : Reached} {stepped : Stepped}
     → PartComes (value_at s station) point given before came middle → stepped ≡ stepped_by_value station came → ComesBehind bound s stepped middle reached after → StatementComes bound s (in_value station point) given before reached after
-value_comes bound s station point given before middle after came reached stepped part is on =
+value_comes bound s station point given {before} {middle} came part is on =
     record {
       same = λ p n depth. alike_alike
           (subst (λ (x : Stepped). Alike (statement_resumed (calls_within p n depth) bound s (in_value station point) given) before (behind_step (calls_within p n depth) bound s x) middle) (sym is)
@@ -230,8 +230,8 @@ part_comes bound s station footing given before middle after inner reached stepp
           (subst (λ (x : Stepped). StepNears bound s (statement_left bound (in_part station footing) s) x) (sym is) (part_near bound s station footing given before middle inner (part_at s station) refl part));
     }
 
-pub behind_stopped : (bound : ℕ) (s : ScopedStatement) (before : Locals) (reached : Reached) (stepped : Stepped) → stepped ≡ stopped reached → ComesBehind bound s stepped before reached before
-behind_stopped bound s before reached stepped is = subst (λ (x : Stepped). ComesBehind bound s x before reached before) (sym is) (record { same = λ p n depth. alike_same; near = λ left h. h })
+pub behind_stopped : (bound : ℕ) (s : ScopedStatement) {before : Locals} {reached : Reached} {stepped : Stepped} → stepped ≡ stopped reached → ComesBehind bound s stepped before reached before
+behind_stopped bound s {before} {reached} is = subst (λ (x : Stepped). ComesBehind bound s x before reached before) (sym is) (record { same = λ p n depth. alike_same; near = λ left h. h })
 
 -- a part that led on, and one that did not, which stands where it stands
 abbrev stepped_led : Station → Option Flow → Stepped
@@ -254,27 +254,27 @@ stays_within station (Refuses line) inner is = refl
 stays_within station Exits inner is = refl
 stays_within station Stops inner is = refl
 
-pub part_leads : (bound : ℕ) (s : ScopedStatement) (station : Station) (footing : Footing) (given : ℕ) (before middle after : Locals) (went : Went) (inner : Footing) (flow : Flow) (reached : Reached)
+pub part_leads : (bound : ℕ) (s : ScopedStatement) (station : Station) (footing : Footing) (given : ℕ) {before middle after : Locals} (went : Went) (inner : Footing) (flow : Flow) {reached : Reached}
     → InnerComes bound (part_at s station) footing given before (went_of went inner) middle → Some flow ≡ led_of went → ComesBehind bound s (again station 0 flow) middle reached after
     → StatementComes bound s (in_part station footing) given before reached after
-part_leads bound s station footing given before middle after went inner flow reached part is on =
+part_leads bound s station footing given {before} {middle} {after} went inner flow {reached} part is on =
     part_comes bound s station footing given before middle after (went_of went inner) reached (again station 0 flow) part (led_steps station went inner flow is) on
 
 pub part_stays : (bound : ℕ) (s : ScopedStatement) (station : Station) (footing : Footing) (given : ℕ) (before after : Locals) (went : Went) (inner : Footing)
     → InnerComes bound (part_at s station) footing given before (went_of went inner) after → None ≡ led_of went → StatementComes bound s (in_part station footing) given before (went_of went (in_part station inner)) after
 part_stays bound s station footing given before after went inner part is =
     let still = went_of went (in_part station inner) in
-    part_comes bound s station footing given before after after (went_of went inner) still (stopped still) part (stays_within station went inner is) (behind_stopped bound s after still (stopped still) refl)
+    part_comes bound s station footing given before after after (went_of went inner) still (stopped still) part (stays_within station went inner is) (behind_stopped bound s refl)
 
 -- at a station
-pub station_comes : (bound : ℕ) (s : ScopedStatement) (station : Station) (given : ℕ) (before after : Locals) (reached : Reached) → ComesBehind bound s (again station given normal) before reached after
+pub station_comes : (bound : ℕ) (s : ScopedStatement) (station : Station) (given : ℕ) {before after : Locals} {reached : Reached} → ComesBehind bound s (again station given normal) before reached after
     → StatementComes bound s (at_station station) given before reached after
-station_comes bound s station given before after reached on = record { same = λ p n depth. on.same p n depth; near = on.near (statement_left bound (at_station station) s) (omega arith) }
+station_comes bound s station given on = record { same = λ p n depth. on.same p n depth; near = on.near (statement_left bound (at_station station) s) (omega arith) }
 
 -- behind a step that leads to a station, and behind one that came so far
-pub behind_again : (bound : ℕ) (s : ScopedStatement) (station : Station) (v : ℕ) (flow : Flow) (before after : Locals) (reached : Reached) (stepped : Stepped)
+pub behind_again : (bound : ℕ) (s : ScopedStatement) (station : Station) (v : ℕ) (flow : Flow) {before after : Locals} {reached : Reached} {stepped : Stepped}
     → stepped ≡ again station v flow → ComesBehind bound s (again station v flow) before reached after → ComesBehind bound s stepped before reached after
-behind_again bound s station v flow before after reached stepped is on = subst (λ (x : Stepped). ComesBehind bound s x before reached after) (sym is) on
+behind_again bound s station v flow {before} {after} {reached} is on = subst (λ (x : Stepped). ComesBehind bound s x before reached after) (sym is) on
 
 -- ---- one step
 
@@ -314,17 +314,17 @@ step_reaches bound s station v flow before after reached is left =
       near = still_nears bound s (station_rank bound s station * suc (inner_most bound s)) reached (falls_by bound s station v flow (reaches reached) is);
     }
 
-pub step_value : (bound : ℕ) (s : ScopedStatement) (station next : Station) (v : ℕ) (flow : Flow) (before middle after : Locals) (stepped : Stepped) → enters_value next ≡ station_move bound s station v flow → middle ≡ station_leaves s station v before
+pub step_value : (bound : ℕ) (s : ScopedStatement) (station next : Station) (v : ℕ) (flow : Flow) {before middle after : Locals} {stepped : Stepped} → enters_value next ≡ station_move bound s station v flow → middle ≡ station_leaves s station v before
     → EnteredValue s next middle stepped after → Steps bound s station v flow before stepped after
-step_value bound s station next v flow before middle after stepped is left inner =
+step_value bound s station next v flow {before} {middle} {stepped} is left inner =
     record {
       same = λ p n depth. alike_alike (step_moves bound s station v flow before middle (enters_value next) is left p n depth) (inner.same p n bound depth);
       near = step_lower bound s (station_rank bound s next) (station_rank bound s station) stepped (inner.near bound) (falls_by bound s station v flow (enters_value next) is);
     }
 
-pub step_part : (bound : ℕ) (s : ScopedStatement) (station next : Station) (v : ℕ) (flow : Flow) (before middle after : Locals) (stepped : Stepped) → enters_part next ≡ station_move bound s station v flow → middle ≡ station_leaves s station v before
+pub step_part : (bound : ℕ) (s : ScopedStatement) (station next : Station) (v : ℕ) (flow : Flow) {before middle after : Locals} {stepped : Stepped} → enters_part next ≡ station_move bound s station v flow → middle ≡ station_leaves s station v before
     → EnteredPart bound s next middle stepped after → Steps bound s station v flow before stepped after
-step_part bound s station next v flow before middle after stepped is left inner =
+step_part bound s station next v flow {before} {middle} {stepped} is left inner =
     record {
       same = λ p n depth. alike_alike (step_moves bound s station v flow before middle (enters_part next) is left p n depth) (inner.same p n depth);
       near = step_lower bound s (station_rank bound s next) (station_rank bound s station) stepped inner.near (falls_by bound s station v flow (enters_part next) is);
@@ -339,13 +339,13 @@ stays_down : (bound : ℕ) (s : ScopedStatement) (r : ℕ) (next : Station) (ste
 stays_down bound s r next (again station v flow) stays low = subst (λ (x : Station). station_rank bound s x < r) (sym stays) low
 stays_down bound s r next (stopped reached) stays low = tt
 
-pub value_down : (bound : ℕ) (s : ScopedStatement) (station next : Station) (v : ℕ) (flow : Flow) (before after : Locals) (stepped : Stepped) → enters_value next ≡ station_move bound s station v flow → EnteredValue s next before stepped after
+pub value_down : (bound : ℕ) (s : ScopedStatement) (station next : Station) (v : ℕ) (flow : Flow) {before after : Locals} {stepped : Stepped} → enters_value next ≡ station_move bound s station v flow → EnteredValue s next before stepped after
     → GoesDown bound s (station_rank bound s station) stepped
-value_down bound s station next v flow before after stepped is inner = stays_down bound s (station_rank bound s station) next stepped inner.stays (falls_by bound s station v flow (enters_value next) is)
+value_down bound s station next v flow {stepped} is inner = stays_down bound s (station_rank bound s station) next stepped inner.stays (falls_by bound s station v flow (enters_value next) is)
 
-pub part_down : (bound : ℕ) (s : ScopedStatement) (station next : Station) (v : ℕ) (flow : Flow) (before after : Locals) (stepped : Stepped) → enters_part next ≡ station_move bound s station v flow → EnteredPart bound s next before stepped after
+pub part_down : (bound : ℕ) (s : ScopedStatement) (station next : Station) (v : ℕ) (flow : Flow) {before after : Locals} {stepped : Stepped} → enters_part next ≡ station_move bound s station v flow → EnteredPart bound s next before stepped after
     → GoesDown bound s (station_rank bound s station) stepped
-part_down bound s station next v flow before after stepped is inner = stays_down bound s (station_rank bound s station) next stepped inner.stays (falls_by bound s station v flow (enters_part next) is)
+part_down bound s station next v flow {stepped} is inner = stays_down bound s (station_rank bound s station) next stepped inner.stays (falls_by bound s station v flow (enters_part next) is)
 
 pub again_down : (bound : ℕ) (s : ScopedStatement) (station next : Station) (v : ℕ) (flow : Flow) (stepped : Stepped) → stepped ≡ again next v flow → GoesDown bound s (station_rank bound s station) stepped
     → station_rank bound s next < station_rank bound s station
@@ -369,8 +369,8 @@ pub steps_next : (bound : ℕ) (s : ScopedStatement) (station now next : Station
 steps_next bound s station now next v w u flow way onward before middle after stepped one two is =
     subst (λ (x : Stepped). Steps bound s station v flow before x after) is (steps_steps bound s station now v w flow way before middle after stepped one two)
 
-pub steps_come : (bound : ℕ) (s : ScopedStatement) (station now : Station) (v w : ℕ) (flow way : Flow) (before middle after : Locals) (reached : Reached) (stepped : Stepped)
+pub steps_come : (bound : ℕ) (s : ScopedStatement) (station now : Station) (v w : ℕ) (flow way : Flow) {before middle after : Locals} {reached : Reached} {stepped : Stepped}
     → Steps bound s station v flow before (again now w way) middle → Steps bound s now w way middle stepped after → stepped ≡ stopped reached → ComesBehind bound s (again station v flow) before reached after
-steps_come bound s station now v w flow way before middle after reached stepped one two is =
+steps_come bound s station now v w flow way {before} {middle} {after} {reached} {stepped} one two is =
     let whole : Steps bound s station v flow before (stopped reached) after = subst (λ (x : Stepped). Steps bound s station v flow before x after) is (steps_steps bound s station now v w flow way before middle after stepped one two) in
     record { same = λ p n depth. whole.same p n depth; near = λ left low. reached_more bound s (station_rank bound s station * suc (inner_most bound s)) left reached whole.near low }

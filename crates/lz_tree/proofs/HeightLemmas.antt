@@ -33,22 +33,22 @@ here {A = A} f xs at x lt is =
     rw (cut, ← is, one) refl
 
 -- one turn
-pub so_far_turn : {A : Type 0} (f : A → ℕ) (xs : List A) (at top : ℕ) (x : A) → at < length xs → x ≡ get_or xs at x → IsSoFar f xs at top → IsSoFar f xs (at + 1) (max (f x) top)
-so_far_turn f xs at top x lt is so_far =
+pub so_far_turn : {A : Type 0} (f : A → ℕ) {xs : List A} {at top : ℕ} {x : A} → at < length xs → x ≡ get_or xs at x → IsSoFar f xs at top → IsSoFar f xs (at + 1) (max (f x) top)
+so_far_turn f {xs} {at} {top} {x} lt is so_far =
     let now : greatest f (drop at xs) ≡ max (f x) (greatest f (drop (at + 1) xs)) = here f xs at x lt is in
     let before : max top (greatest f (drop at xs)) ≡ greatest f xs = so_far.whole in
     record { whole = omega arith }
 
 -- an item's number is at most the greatest
-pub so_far_item : {A : Type 0} (f : A → ℕ) (xs : List A) (at top : ℕ) (x : A) → at < length xs → x ≡ get_or xs at x → IsSoFar f xs at top → f x ≤ greatest f xs
-so_far_item f xs at top x lt is so_far =
+pub so_far_item : {A : Type 0} (f : A → ℕ) {xs : List A} {at top : ℕ} {x : A} → at < length xs → x ≡ get_or xs at x → IsSoFar f xs at top → f x ≤ greatest f xs
+so_far_item f {xs} {at} {top} {x} lt is so_far =
     let now : greatest f (drop at xs) ≡ max (f x) (greatest f (drop (at + 1) xs)) = here f xs at x lt is in
     let before : max top (greatest f (drop at xs)) ≡ greatest f xs = so_far.whole in
     omega arith
 
 -- at the end it is the greatest
-pub so_far_end : {A : Type 0} (f : A → ℕ) (xs : List A) (at top : ℕ) → at ≡ length xs → IsSoFar f xs at top → top ≡ greatest f xs
-so_far_end {A = A} f xs at top end so_far =
+pub so_far_end : {A : Type 0} (f : A → ℕ) {xs : List A} {at top : ℕ} → at ≡ length xs → IsSoFar f xs at top → top ≡ greatest f xs
+so_far_end {A = A} f {xs} {at} {top} end so_far =
     let gone : drop at xs ≡ [] = rw end (drop-length xs) in
     let before : max top (greatest f (drop at xs)) ≡ greatest f xs = so_far.whole in
     let none : greatest f (drop at xs) ≡ 0 = ap (greatest f) gone in

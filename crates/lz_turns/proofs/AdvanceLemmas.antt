@@ -157,9 +157,9 @@ entered e stage before after came turned part is =
     }
 
 -- within a part that is not done
-pub part_within : (e : ScopedExpression) (stage : Stage) (point : Point) (given : ℕ) (before after : Locals) (came end : Came)
+pub part_within : (e : ScopedExpression) (stage : Stage) (point : Point) (given : ℕ) {before after : Locals} (came : Came) {end : Came}
     → PartComes (part_of e (slot_of stage)) point given before came after → turned_by stage came ≡ stopped end → Comes e (within stage point) given before end after
-part_within e stage point given before after came end part is =
+part_within e stage point given {before} {after} came part is =
     record {
       same = λ p n depth. subst (λ (x : Turned). Alike (resumed (calls_within p n depth) e (within stage point) given) before (behind_turn (calls_within p n depth) e x) after) is
           (part_turns e stage point given before after came part p n depth);
@@ -167,9 +167,9 @@ part_within e stage point given before after came end part is =
     }
 
 -- behind a part that is done
-pub part_behind : (e : ScopedExpression) (stage : Stage) (point : Point) (given v : ℕ) (before middle after : Locals) (came end : Came)
+pub part_behind : (e : ScopedExpression) (stage : Stage) (point : Point) (given v : ℕ) {before middle after : Locals} {came end : Came}
     → PartComes (part_of e (slot_of stage)) point given before came middle → came ≡ settles v → Comes e (at_stage stage) v middle end after → Comes e (within stage point) given before end after
-part_behind e stage point given v before middle after came end part is on =
+part_behind e stage point given v {before} {middle} {came} {end} part is on =
     let done_so : turned_by stage came ≡ again stage v = ap (turned_by stage) is in
     record {
       same = λ p n depth. alike_alike
@@ -206,14 +206,14 @@ pub turn_goes : (e : ScopedExpression) (stage next : Stage) (v w : ℕ) (before 
 turn_goes e stage next v w before after is left =
     record { same = λ p n depth. turn_moves e stage v before after (goes next w) is left p n depth; near = lower_near e (rank e next) (rank e stage) (falls_by e stage v before (goes next w) is) }
 
-pub turn_comes : (e : ScopedExpression) (stage : Stage) (v : ℕ) (before after : Locals) (came : Came) → comes came ≡ turn_of e stage v before → after ≡ left_by e stage v before
+pub turn_comes : (e : ScopedExpression) (stage : Stage) (v : ℕ) {before after : Locals} (came : Came) → comes came ≡ turn_of e stage v before → after ≡ left_by e stage v before
     → Turns e stage v before (stopped came) after
-turn_comes e stage v before after came is left =
+turn_comes e stage v {before} {after} came is left =
     record { same = λ p n depth. turn_moves e stage v before after (comes came) is left p n depth; near = told_near e stage v before came is }
 
-pub turn_enters : (e : ScopedExpression) (stage next : Stage) (v : ℕ) (before middle after : Locals) (turned : Turned) → enters next ≡ turn_of e stage v before → middle ≡ left_by e stage v before
+pub turn_enters : (e : ScopedExpression) (stage next : Stage) (v : ℕ) {before middle after : Locals} {turned : Turned} → enters next ≡ turn_of e stage v before → middle ≡ left_by e stage v before
     → Entered e next middle turned after → Turns e stage v before turned after
-turn_enters e stage next v before middle after turned is left inner =
+turn_enters e stage next v {before} {middle} {turned} is left inner =
     record {
       same = λ p n depth. alike_alike (turn_moves e stage v before middle (enters next) is left p n depth) (inner.same p n depth);
       near = turn_nears_more e (suc (rank e next) * part_calls e) (rank e stage * part_calls e) turned inner.near (mul-le (suc (rank e next)) (part_calls e) (rank e stage) (part_calls e) (falls_by e stage v before (enters next) is) (omega arith));
@@ -228,9 +228,9 @@ stays_down : (n r : ℕ) (next : Stage) (turned : Turned) → StaysAt next turne
 stays_down n r next (again stage w) stays low = subst (λ (x : Stage). rank_of n x < r) (sym stays) low
 stays_down n r next (stopped came) stays low = tt
 
-pub enters_down : (e : ScopedExpression) (stage next : Stage) (v : ℕ) (before middle after : Locals) (turned : Turned) → enters next ≡ turn_of e stage v before → Entered e next middle turned after
+pub enters_down : (e : ScopedExpression) (stage next : Stage) (v : ℕ) (before : Locals) {middle after : Locals} {turned : Turned} → enters next ≡ turn_of e stage v before → Entered e next middle turned after
     → GoesDown (count (arguments_of e)) (rank e stage) turned
-enters_down e stage next v before middle after turned is inner = stays_down (count (arguments_of e)) (rank e stage) next turned inner.stays (falls_by e stage v before (enters next) is)
+enters_down e stage next v before {turned} is inner = stays_down (count (arguments_of e)) (rank e stage) next turned inner.stays (falls_by e stage v before (enters next) is)
 
 pub again_down : (e : ScopedExpression) (stage next : Stage) (w : ℕ) (turned : Turned) → turned ≡ again next w → GoesDown (count (arguments_of e)) (rank e stage) turned → rank e next < rank e stage
 again_down e stage next w turned is down = subst (λ (x : Turned). GoesDown (count (arguments_of e)) (rank e stage) x) is down
@@ -247,13 +247,13 @@ turns_turns e stage now v w before middle after turned one two =
       near = turn_nears_more e (rank e now * part_calls e) (rank e stage * part_calls e) turned two.near one.near;
     }
 
-pub turns_next : (e : ScopedExpression) (stage now next : Stage) (v w u : ℕ) (before middle after : Locals) (turned : Turned) → Turns e stage v before (again now w) middle → Turns e now w middle turned after → turned ≡ again next u
+pub turns_next : (e : ScopedExpression) (stage now next : Stage) (v w u : ℕ) {before middle after : Locals} {turned : Turned} → Turns e stage v before (again now w) middle → Turns e now w middle turned after → turned ≡ again next u
     → Turns e stage v before (again next u) after
-turns_next e stage now next v w u before middle after turned one two is =
+turns_next e stage now next v w u {before} {middle} {after} {turned} one two is =
     subst (λ (x : Turned). Turns e stage v before x after) is (turns_turns e stage now v w before middle after turned one two)
 
-pub turns_come : (e : ScopedExpression) (stage now : Stage) (v w : ℕ) (before middle after : Locals) (came : Came) (turned : Turned) → Turns e stage v before (again now w) middle → Turns e now w middle turned after → turned ≡ stopped came
+pub turns_come : (e : ScopedExpression) (stage now : Stage) (v w : ℕ) {before middle after : Locals} {came : Came} {turned : Turned} → Turns e stage v before (again now w) middle → Turns e now w middle turned after → turned ≡ stopped came
     → Comes e (at_stage stage) v before came after
-turns_come e stage now v w before middle after came turned one two is =
+turns_come e stage now v w {before} {middle} {after} {came} {turned} one two is =
     let whole : Turns e stage v before (stopped came) after = subst (λ (x : Turned). Turns e stage v before x after) is (turns_turns e stage now v w before middle after turned one two) in
     record { same = λ p n depth. whole.same p n depth; near = whole.near }

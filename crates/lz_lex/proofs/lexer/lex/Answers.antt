@@ -15,14 +15,14 @@ returns-in_default-clause-bad c =
     let some : 0 < length c.loop-rest.rest.now = grind (arith, nat_tests) in
     let none = sym c.scan.ensures ∙ ap (option_map front) c.in_default.is in
     let stop = sym c.loop-rest.invariant.on ∙ stop-none (cutting c.loop-rest.at) c.loop-rest.rest.now some none in
-    λ place line e. stopped_at _ _ _ place line c.bad.result _ refl stop c.bad.ensures e
+    λ place line e. stopped_at _ _ place line c.bad.result refl stop c.bad.ensures e
 
 pub returns-then-not-may_stand-clause-bad : goal.returns-then-not-may_stand-clause-bad
 returns-then-not-may_stand-clause-bad c =
     let found = sym c.scan.ensures ∙ ap (option_map front) c.in-Some.is in
     let blocked = sym c.may_stand.ensures ∙ c.if-not-may_stand.true in
     let stop = sym c.loop-rest.invariant.on ∙ stop-blocked (cutting c.loop-rest.at) c.loop-rest.rest.now (front c.in-Some.front) found blocked in
-    λ place line e. stopped_at _ _ _ place line c.bad-then-not-may_stand.result _ refl stop c.bad-then-not-may_stand.ensures e
+    λ place line e. stopped_at _ _ place line c.bad-then-not-may_stand.result refl stop c.bad-then-not-may_stand.ensures e
 
 pub split_at-requires : goal.split_at-requires
 split_at-requires c =

@@ -11,7 +11,7 @@ use Rattle.lz_stations.proofs.WalkLemmas.{part_missing, part_there, part_entered
 use Rattle.lz_stations.proofs.walking.+walk.Goals as goal
 
 pub enter_part-returns : goal.enter_part-returns
-enter_part-returns t c = part_entered c.args.bound (scoped_statement c.args.s.now) (station_of c.args.station) _ _ _ _ c.in_ok-part.ensures c.in_ok-stepped.ensures
+enter_part-returns t c = part_entered c.args.bound (scoped_statement c.args.s.now) (station_of c.args.station) _ c.in_ok-part.ensures c.in_ok-stepped.ensures
 
 pub go_on-loop-next-init : goal.go_on-loop-next-init
 go_on-loop-next-init t c = steps_first c.args.bound (scoped_statement c.args.s.now) (station_of c.args.station) c.args.value (flow_of c.args.flow) _
@@ -27,7 +27,7 @@ go_on-loop-next-preserved t c =
 
 pub go_on-returns-in-Stopped : goal.go_on-returns-in-Stopped
 go_on-returns-in-Stopped t c =
-    steps_come c.args.bound (scoped_statement c.args.s.now) (station_of c.args.station) (station_of c.loop-next.now) c.args.value c.loop-next.held (flow_of c.args.flow) (flow_of c.loop-next.led) _ _ _ _ _
+    steps_come c.args.bound (scoped_statement c.args.s.now) (station_of c.args.station) (station_of c.loop-next.now) c.args.value c.loop-next.held (flow_of c.args.flow) (flow_of c.loop-next.led)
     c.loop-next.invariant c.in_ok-next.ensures.same (ap (λ x. stepped_of x (footing_of c.step.new.footing)) c.in-Stopped.is)
 
 pub part-returns-in-None : goal.part-returns-in-None
@@ -38,22 +38,22 @@ step-station_writes-requires t c = declares_numbers (scoped_statement c.args.s.n
 
 pub step-returns-in_ok-stepped-in-EntersValue-clause-same : goal.step-returns-in_ok-stepped-in-EntersValue-clause-same
 step-returns-in_ok-stepped-in-EntersValue-clause-same t c =
-    step_value c.args.bound (scoped_statement c.args.s.now) (station_of c.args.station) (station_of c.in-EntersValue.next) c.args.value (flow_of c.args.flow) _ _ _ _
+    step_value c.args.bound (scoped_statement c.args.s.now) (station_of c.args.station) (station_of c.in-EntersValue.next) c.args.value (flow_of c.args.flow)
     (sym (ap station_move_of c.in-EntersValue.is) ∙ c.station_move.ensures) c.in_ok-station_writes.ensures c.in_ok-stepped-in-EntersValue.ensures
 
 pub step-returns-in_ok-stepped-in-EntersValue-clause-down : goal.step-returns-in_ok-stepped-in-EntersValue-clause-down
 step-returns-in_ok-stepped-in-EntersValue-clause-down t c =
-    value_down c.args.bound (scoped_statement c.args.s.now) (station_of c.args.station) (station_of c.in-EntersValue.next) c.args.value (flow_of c.args.flow) _ _ _
+    value_down c.args.bound (scoped_statement c.args.s.now) (station_of c.args.station) (station_of c.in-EntersValue.next) c.args.value (flow_of c.args.flow)
     (sym (ap station_move_of c.in-EntersValue.is) ∙ c.station_move.ensures) c.in_ok-stepped-in-EntersValue.ensures
 
 pub step-returns-in_ok-stepped-in-EntersPart-clause-same : goal.step-returns-in_ok-stepped-in-EntersPart-clause-same
 step-returns-in_ok-stepped-in-EntersPart-clause-same t c =
-    step_part c.args.bound (scoped_statement c.args.s.now) (station_of c.args.station) (station_of c.in-EntersPart.next) c.args.value (flow_of c.args.flow) _ _ _ _
+    step_part c.args.bound (scoped_statement c.args.s.now) (station_of c.args.station) (station_of c.in-EntersPart.next) c.args.value (flow_of c.args.flow)
     (sym (ap station_move_of c.in-EntersPart.is) ∙ c.station_move.ensures) c.in_ok-station_writes.ensures c.in_ok-stepped-in-EntersPart.ensures
 
 pub step-returns-in_ok-stepped-in-EntersPart-clause-down : goal.step-returns-in_ok-stepped-in-EntersPart-clause-down
 step-returns-in_ok-stepped-in-EntersPart-clause-down t c =
-    part_down c.args.bound (scoped_statement c.args.s.now) (station_of c.args.station) (station_of c.in-EntersPart.next) c.args.value (flow_of c.args.flow) _ _ _
+    part_down c.args.bound (scoped_statement c.args.s.now) (station_of c.args.station) (station_of c.in-EntersPart.next) c.args.value (flow_of c.args.flow)
     (sym (ap station_move_of c.in-EntersPart.is) ∙ c.station_move.ensures) c.in_ok-stepped-in-EntersPart.ensures
 
 pub step-returns-in-MovesOn-clause-same : goal.step-returns-in-MovesOn-clause-same
@@ -97,23 +97,23 @@ part-walk-requires t c =
 
 pub part-returns-in-Some : goal.part-returns-in-Some
 part-returns-in-Some t c =
-    IfOk-weaker c.walk.result _ _ (λ done comes. part_there c.args.bound (part_at (scoped_statement c.args.s.now) (station_of c.args.station)) _ _ c.args.given _ _ _ c.in-Some.ensures comes) c.walk.ensures
+    IfOk-weaker c.walk.result _ _ (λ done comes. part_there c.args.bound (part_at (scoped_statement c.args.s.now) (station_of c.args.station)) c.args.given c.in-Some.ensures comes) c.walk.ensures
 
 pub walk_value-returns-in-Again : goal.walk_value-returns-in-Again
 walk_value-returns-in-Again t c =
     let is = ap (λ x. stepped_of x (footing_of c.behind_value.new.footing)) c.in-Again.is in
     IfOk-weaker c.go_on.result _ _
-    (λ done comes. value_comes c.args.bound (scoped_statement c.args.s.now) (station_of c.args.station) _ c.args.given _ _ _ _ _ _ c.in_ok-came.ensures c.behind_value.ensures
-    (behind_again c.args.bound (scoped_statement c.args.s.now) (station_of c.in-Again.next) c.in-Again.held (flow_of c.in-Again.flow) _ _ _ _ is comes)) c.go_on.ensures
+    (λ done comes. value_comes c.args.bound (scoped_statement c.args.s.now) (station_of c.args.station) _ c.args.given _ c.in_ok-came.ensures c.behind_value.ensures
+    (behind_again c.args.bound (scoped_statement c.args.s.now) (station_of c.in-Again.next) c.in-Again.held (flow_of c.in-Again.flow) is comes)) c.go_on.ensures
 
 pub walk_value-returns-in-Stopped : goal.walk_value-returns-in-Stopped
 walk_value-returns-in-Stopped t c =
-    let on = behind_stopped c.args.bound (scoped_statement c.args.s.now) _ _ _ (ap (λ x. stepped_of x (footing_of c.behind_value.new.footing)) c.in-Stopped.is) in
-    value_comes c.args.bound (scoped_statement c.args.s.now) (station_of c.args.station) _ c.args.given _ _ _ _ _ _ c.in_ok-came.ensures c.behind_value.ensures on
+    let on = behind_stopped c.args.bound (scoped_statement c.args.s.now) (ap (λ x. stepped_of x (footing_of c.behind_value.new.footing)) c.in-Stopped.is) in
+    value_comes c.args.bound (scoped_statement c.args.s.now) (station_of c.args.station) _ c.args.given _ c.in_ok-came.ensures c.behind_value.ensures on
 
 pub walk-returns-in-At : goal.walk-returns-in-At
 walk-returns-in-At t c =
-    let on = IfOk-weaker c.go_on.result _ _ (λ done comes. station_comes c.args.bound (scoped_statement c.args.s.now) (station_of c.in-At.station) c.args.given _ _ _ comes) c.go_on.ensures in
+    let on = IfOk-weaker c.go_on.result _ _ (λ done comes. station_comes c.args.bound (scoped_statement c.args.s.now) (station_of c.in-At.station) c.args.given comes) c.go_on.ensures in
     rw (c.in-At.is) on
 
 pub walk-returns-in-InValue : goal.walk-returns-in-InValue
@@ -127,5 +127,5 @@ walk-returns-in-None t c =
 pub walk-returns-in-Some : goal.walk-returns-in-Some
 walk-returns-in-Some t c =
     let on = IfOk-weaker c.go_on-in-Some.result _ _
-    (λ done comes. part_leads c.args.bound (scoped_statement c.args.s.now) (station_of c.in-InPart.station) _ c.args.given _ _ _ c.part.new.went _ (flow_of c.in-Some.flow) _ c.in_ok-part-in-InPart.ensures c.in-Some.ensures comes) c.go_on-in-Some.ensures in
+    (λ done comes. part_leads c.args.bound (scoped_statement c.args.s.now) (station_of c.in-InPart.station) _ c.args.given c.part.new.went _ (flow_of c.in-Some.flow) c.in_ok-part-in-InPart.ensures c.in-Some.ensures comes) c.go_on-in-Some.ensures in
     rw (c.in-InPart.is, sym c.deref_mut.ensures.value) on

@@ -34,7 +34,7 @@ highest-loop-item-init t c = so_far_start _ _
 pub highest-expression_height-requires : goal.highest-expression_height-requires
 highest-expression_height-requires t c =
     let low : expression_height (expression c.item-item.result) ≤ greatest (λ x. expression_height (expression x)) c.args.items.now =
-    so_far_item (λ x. expression_height (expression x)) _ _ _ _ c.loop-item-test.true c.item-item.is c.loop-item.invariant in
+    so_far_item (λ x. expression_height (expression x)) c.loop-item-test.true c.item-item.is c.loop-item.invariant in
     let bound : greatest (λ x. expression_height (expression x)) c.args.items.now < 4294967296 = subst (λ n. n < 4294967296) (highest-of expression c.args.items.now) c.requires in
     let deep : the_size c.item-item.result ≤ most the_size c.args.items.now =
     subst (λ (x : Expr). the_size x ≤ most the_size c.args.items.now) (sym c.item-item.is) (at_most the_size c.args.items.now c.loop-item.item-index c.item-item.result c.loop-item-test.true) in
@@ -42,10 +42,10 @@ highest-expression_height-requires t c =
 
 pub highest-loop-item-preserved : goal.highest-loop-item-preserved
 highest-loop-item-preserved t c =
-    let turn = so_far_turn (λ x. expression_height (expression x)) _ _ _ _ c.loop-item-test.true c.item-item.is c.loop-item.invariant in
+    let turn = so_far_turn (λ x. expression_height (expression x)) c.loop-item-test.true c.item-item.is c.loop-item.invariant in
     rw (c.max-top.ensures, c.expression_height.ensures) turn
 
 pub highest-returns : goal.highest-returns
 highest-returns t c =
-    let end = so_far_end (λ x. expression_height (expression x)) _ _ _ (omega arith) c.loop-item.invariant in
+    let end = so_far_end (λ x. expression_height (expression x)) (omega arith) c.loop-item.invariant in
     end ∙ sym (highest-of expression c.args.items.now)

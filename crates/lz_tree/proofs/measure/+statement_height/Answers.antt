@@ -34,7 +34,7 @@ parts_height-loop-item-init t c = so_far_start _ _
 pub parts_height-statement_height-requires : goal.parts_height-statement_height-requires
 parts_height-statement_height-requires t c =
     let low : statement_height (statement c.item-item.result) ≤ greatest (λ x. statement_height (statement x)) c.args.items.now =
-    so_far_item (λ x. statement_height (statement x)) _ _ _ _ c.loop-item-test.true c.item-item.is c.loop-item.invariant in
+    so_far_item (λ x. statement_height (statement x)) c.loop-item-test.true c.item-item.is c.loop-item.invariant in
     let bound : greatest (λ x. statement_height (statement x)) c.args.items.now < 4294967296 = subst (λ n. n < 4294967296) (parts_height-of statement c.args.items.now) c.requires in
     let deep : the_size c.item-item.result ≤ most the_size c.args.items.now =
     subst (λ (x : Stmt). the_size x ≤ most the_size c.args.items.now) (sym c.item-item.is) (at_most the_size c.args.items.now c.loop-item.item-index c.item-item.result c.loop-item-test.true) in
@@ -42,10 +42,10 @@ parts_height-statement_height-requires t c =
 
 pub parts_height-loop-item-preserved : goal.parts_height-loop-item-preserved
 parts_height-loop-item-preserved t c =
-    let turn = so_far_turn (λ x. statement_height (statement x)) _ _ _ _ c.loop-item-test.true c.item-item.is c.loop-item.invariant in
+    let turn = so_far_turn (λ x. statement_height (statement x)) c.loop-item-test.true c.item-item.is c.loop-item.invariant in
     rw (c.max-top.ensures, c.statement_height.ensures) turn
 
 pub parts_height-returns : goal.parts_height-returns
 parts_height-returns t c =
-    let end = so_far_end (λ x. statement_height (statement x)) _ _ _ (omega arith) c.loop-item.invariant in
+    let end = so_far_end (λ x. statement_height (statement x)) (omega arith) c.loop-item.invariant in
     end ∙ sym (parts_height-of statement c.args.items.now)

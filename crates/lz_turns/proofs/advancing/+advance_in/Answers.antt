@@ -21,16 +21,16 @@ enter-returns t c = entered (scoped_expression c.args.e.now) (stage_of c.args.st
 
 pub go_on-loop-next-preserved : goal.go_on-loop-next-preserved
 go_on-loop-next-preserved t c =
-    turns_next (scoped_expression c.args.e.now) (stage_of c.args.stage) (stage_of c.loop-next.now) (stage_of c.in-Again.next) c.args.value c.loop-next.held c.in-Again.given _ _ _ _ c.loop-next.invariant c.in_ok-next.ensures.same
+    turns_next (scoped_expression c.args.e.now) (stage_of c.args.stage) (stage_of c.loop-next.now) (stage_of c.in-Again.next) c.args.value c.loop-next.held c.in-Again.given c.loop-next.invariant c.in_ok-next.ensures.same
     (ap (λ x. turned_of x (point_of c.turn.new.place)) c.in-Again.is)
 
 pub go_on-returns-in-Stopped : goal.go_on-returns-in-Stopped
 go_on-returns-in-Stopped t c =
-    turns_come (scoped_expression c.args.e.now) (stage_of c.args.stage) (stage_of c.loop-next.now) c.args.value c.loop-next.held _ _ _ _ _ c.loop-next.invariant c.in_ok-next.ensures.same (ap (λ x. turned_of x (point_of c.turn.new.place)) c.in-Stopped.is)
+    turns_come (scoped_expression c.args.e.now) (stage_of c.args.stage) (stage_of c.loop-next.now) c.args.value c.loop-next.held c.loop-next.invariant c.in_ok-next.ensures.same (ap (λ x. turned_of x (point_of c.turn.new.place)) c.in-Stopped.is)
 
 pub turn-returns-in-Comes-clause-same : goal.turn-returns-in-Comes-clause-same
 turn-returns-in-Comes-clause-same t c =
-    turn_comes (scoped_expression c.args.e.now) (stage_of c.args.stage) c.args.value _ _ _ (ap (λ x. comes x) c.stand_behind-went.ensures ∙ sym (ap move_of c.in-Comes.is) ∙ c.in_ok-came.ensures.step) c.in_ok-came.ensures.left
+    turn_comes (scoped_expression c.args.e.now) (stage_of c.args.stage) c.args.value _ (ap (λ x. comes x) c.stand_behind-went.ensures ∙ sym (ap move_of c.in-Comes.is) ∙ c.in_ok-came.ensures.step) c.in_ok-came.ensures.left
 
 pub turn-returns-in-Goes-clause-same : goal.turn-returns-in-Goes-clause-same
 turn-returns-in-Goes-clause-same t c =
@@ -42,20 +42,20 @@ turn-returns-in-Goes-clause-down t c =
 
 pub turn-returns-in_ok-turned-in-Enters-clause-same : goal.turn-returns-in_ok-turned-in-Enters-clause-same
 turn-returns-in_ok-turned-in-Enters-clause-same t c =
-    turn_enters (scoped_expression c.args.e.now) (stage_of c.args.stage) (stage_of c.in-Enters.next) c.args.value _ _ _ _ (sym (ap move_of c.in-Enters.is) ∙ c.in_ok-came.ensures.step) c.in_ok-came.ensures.left
+    turn_enters (scoped_expression c.args.e.now) (stage_of c.args.stage) (stage_of c.in-Enters.next) c.args.value (sym (ap move_of c.in-Enters.is) ∙ c.in_ok-came.ensures.step) c.in_ok-came.ensures.left
     c.in_ok-turned-in-Enters.ensures
 
 pub turn-returns-in_ok-turned-in-Enters-clause-down : goal.turn-returns-in_ok-turned-in-Enters-clause-down
 turn-returns-in_ok-turned-in-Enters-clause-down t c =
-    enters_down (scoped_expression c.args.e.now) (stage_of c.args.stage) (stage_of c.in-Enters.next) c.args.value _ _ _ _ (sym (ap move_of c.in-Enters.is) ∙ c.in_ok-came.ensures.step) c.in_ok-turned-in-Enters.ensures
+    enters_down (scoped_expression c.args.e.now) (stage_of c.args.stage) (stage_of c.in-Enters.next) c.args.value _ (sym (ap move_of c.in-Enters.is) ∙ c.in_ok-came.ensures.step) c.in_ok-turned-in-Enters.ensures
 
 pub advance_in-returns-in-None : goal.advance_in-returns-in-None
 advance_in-returns-in-None t c =
-    let on = part_within (scoped_expression c.args.e.now) (stage_of c.in-Within.stage) _ c.args.given _ _ _ _ c.in_ok-went-in-Within.ensures (went_waits c.in_ok-went-in-Within.went (stage_of c.in-Within.stage) _ c.in-None.ensures) in
+    let on = part_within (scoped_expression c.args.e.now) (stage_of c.in-Within.stage) _ c.args.given _ c.in_ok-went-in-Within.ensures (went_waits c.in_ok-went-in-Within.went (stage_of c.in-Within.stage) _ c.in-None.ensures) in
     rw (c.in-Within.is, sym c.deref_mut.ensures.value) on
 
 pub advance_in-returns-in_ok-went-in-Some : goal.advance_in-returns-in_ok-went-in-Some
 advance_in-returns-in_ok-went-in-Some t c =
-    let on = part_behind (scoped_expression c.args.e.now) (stage_of c.in-Within.stage) _ c.args.given c.in-Some.value _ _ _ _ _ c.in_ok-went-in-Within.ensures
+    let on = part_behind (scoped_expression c.args.e.now) (stage_of c.in-Within.stage) _ c.args.given c.in-Some.value c.in_ok-went-in-Within.ensures
     (went_done c.in_ok-went-in-Within.went c.in-Some.value _ c.in-Some.ensures) (rw (ap stage_of c.replace-stage-in-Some.ensures.value) at c.in_ok-went-in-Some.ensures) in
     rw (c.in-Within.is, sym c.deref_mut.ensures.value) on
