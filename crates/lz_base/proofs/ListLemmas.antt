@@ -1,8 +1,9 @@
 -- Facts on lists that the library lacks: their first items and parts, searches for an item that meets a fact, and for one that does not.
 use Rattle.std.proofs.Common.{◌≡◌, ℕ, zero, suc, ◌+◌, ◌<◌, ◌≤◌, ◌⊎◌, inl, inr, List, [], ◌∷◌, ◌++◌, length, get_or, drop, subst, sym, refl, ap, ◌∙◌, arith, below_more}
 use Rattle.std.specs.List.{All, Any, Contains}
-use Rattle.std.proofs.lemmas.List.{get_or_default, drop_more}
+use Rattle.std.proofs.lemmas.List.{get_or_default, drop_more, take_at}
 use Rattle.std.proofs.lemmas.List.Elements.{Contains-append_left, Contains-append_right}
+use Rattle.lz_base.specs.Lending.{written_over}
 
 -- equal lists have one first item and one rest
 pub cons_parts : {A : Type 0} {x y : A} {xs ys : List A} → x ∷ xs ≡ y ∷ ys → (x ≡ y) × (xs ≡ ys)
@@ -21,6 +22,10 @@ nil_back (x ∷ xs) ys e = absurd cc
 -- the item at a place, and what is behind it
 pub drop_item : {A : Type 0} (xs : List A) (i : ℕ) (x : A) → i < length xs → x ≡ get_or xs i x → drop i xs ≡ x ∷ drop (i + 1) xs
 drop_item {A} xs i x below is = drop_more xs i x below ∙ ap (λ (y : A). y ∷ drop (i + 1) xs) (sym is)
+
+-- a list that is written over by as many items as it has is these items
+pub written_over_is : {A : Type 0} (old items : List A) → length items ≡ length old → written_over old items ≡ items
+written_over_is old items e = take_at items (drop (length items) old) (length old) e
 
 -- no item before this place meets the fact
 pub record NoneBefore {A : Type 0} (P : A → Type 0) (xs : List A) (i : ℕ) : Type 0 where

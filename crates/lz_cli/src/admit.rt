@@ -18,10 +18,9 @@ use crate::limits::{COST_LIMIT, SLOT_LIMIT};
 use lz_base::Memory;
 use lz_lex::{LexError, lex};
 use lz_parse::{ParseError, parse};
-use lz_scopes::TypeError;
 use lz_slots::{cost, slots};
 use lz_tree::{Program, Scoped, Tokens};
-use lz_types::{Checked, check};
+use lz_types::{Checked, TypeError, check};
 use std::alloc::Global;
 
 /// Why the program of a file is neither decided nor run.

@@ -12,7 +12,7 @@ use Rattle.lz_tree.specs.Languages.{showing, is_mark, same_mark, mark_shown, mea
 use Rattle.lz_tree.specs.Spelling.{operator_of, assigning_of, SpellsExpression}
 use Rattle.lz_tree.specs.Trees.{Expression, object, binary, choose, assign, Index}
 use Rattle.lz_tree.specs.Height.{expression_height}
-use Rattle.lz_tree.specs.WellFormed.{InExpression, FitsExpression, level}
+use Rattle.lz_tree.specs.WellFormed.{InExpression, FitsExpression, MayAssign, level}
 use Rattle.lz_expr.specs.Reading.{Reader, and_then, ◌>>=◌, pure, shows}
 use Rattle.lz_expr.specs.Grammar.{mark, is_object, assigned, chosen, conditional, value_of, assignment}
 use Rattle.lz_expr.proofs.RowsLemmas.{Row, made, along, row_last, row_token, row_part, heads_token, begins_token, lined_text, row_lined}
@@ -61,6 +61,36 @@ assigning_kinds c (kinds.Keyword w) op e h = absurd cc
 assigning_is : (c : Token) → shows (meant_by assigning_of c) ≡ true → (is_flat c.kind ≡ false) × (meant_by operator_of c ≡ None) × (is_mark marks.Question c ≡ false)
 unfolding meant_by
 assigning_is c h = let s = shows_some (meant_by assigning_of c) h in assigning_kinds c c.kind s.0 refl s.1
+
+-- nor does one compute `&&` or `||`
+abbrev MaySome : Option (Option Binary) → Type 0
+MaySome None = Unit {0}
+MaySome (Some op) = MayAssign op
+
+may_marks : (m : Punct) → MaySome (assigning_of m)
+may_marks marks.Assign = tt
+may_marks marks.AddAssign = refl
+may_marks marks.SubAssign = refl
+may_marks marks.MulAssign = refl
+may_marks marks.DivAssign = refl
+may_marks marks.RemAssign = refl
+may_marks marks.AndAssign = refl
+may_marks marks.OrAssign = refl
+may_marks marks.XorAssign = refl
+may_marks marks.ShlAssign = refl
+may_marks marks.ShrAssign = refl
+may_marks _ = tt
+
+may_kinds : (k : TokenKind) → MaySome (mark_in assigning_of k)
+may_kinds (kinds.Punct m) = may_marks m
+may_kinds (kinds.Name n) = tt
+may_kinds (kinds.Constant v f) = tt
+may_kinds kinds.Text = tt
+may_kinds (kinds.Keyword w) = tt
+
+may_of : (c : Token) (op : Option Binary) → meant_by assigning_of c ≡ Some op → MayAssign op
+unfolding meant_by
+may_of c op h = subst (λ (o : Option (Option Binary)). MaySome o) h (may_kinds c.kind)
 
 equal_token : Token
 equal_token = token_of (kinds.Punct marks.Assign)
@@ -200,7 +230,7 @@ module _ (h : ℕ) (inner : ℕ → Reader Token Expression) (rows : 0 < h → (
       let made : InExpression (suc h) 12 (assign line op at n i w) (u ++ v) = record {
         low = (let x = s.low in let y = w_in.low in omega arith);
         tight = omega arith;
-        fits = (s.fits, w_in.fits);
+        fits = (may_of sign.0 op sign.1.1, s.fits, w_in.fits);
         spells = (line_leads u v (some_text (object at n i) u s.spells) ∙ line_is, (u, v, refl, s.spells, (a, b, same, sign, w_in.spells)));
       } in
       subst (λ (e : Expression). InExpression (suc h) 12 e (u ++ v)) is made
@@ -208,7 +238,7 @@ module _ (h : ℕ) (inner : ℕ → Reader Token Expression) (rows : 0 < h → (
 
   split_assign : (line : ℕ) (op : Option Binary) (at n : ℕ) (i : Index) (v : Expression) (u : List Token) → expression_height (assign line op at n i v) ≤ suc h → FitsExpression (assign line op at n i v) → SpellsExpression (assign line op at n i v) u
       → Extended (Start 11) may_assign value_text (assign line op at n i v) u
-  split_assign line op at n i v u low (fi, fv) (line_is, (a, b, same, target, (c, d, same₂, sign, sv))) =
+  split_assign line op at n i v u low (may, fi, fv) (line_is, (a, b, same, target, (c, d, same₂, sign, sv))) =
       let high = tall v in
       record {
         start = (line, object at n i);

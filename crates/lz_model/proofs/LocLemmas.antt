@@ -46,11 +46,11 @@ loc_act s t = by (is_halted s t)
     by true = inr refl
     by false = inl refl
 
-loc_stays : (s : State) (t : ℕ) (a : Action) → is_loc a ≡ true → (act s t a ≡ went s) ⊎ (act s t a ≡ blocked)
+pub loc_stays : (s : State) (t : ℕ) (a : Action) → is_loc a ≡ true → (act s t a ≡ went s) ⊎ (act s t a ≡ blocked)
 loc_stays s t a e = subst (λ (x : Action). (act s t x ≡ went s) ⊎ (act s t x ≡ blocked)) (sym (loc_is a e)) (loc_act s t)
 
 -- it goes wherever another action of its thread is not blocked
-loc_goes : (s : State) (t : ℕ) (a d : Action) → is_loc a ≡ true → act s t d ≢ blocked → act s t a ≡ went s
+pub loc_goes : (s : State) (t : ℕ) (a d : Action) → is_loc a ≡ true → act s t d ≢ blocked → act s t a ≡ went s
 loc_goes s t a d e can = subst (λ (x : Action). act s t x ≡ went s) (sym (loc_is a e)) (by (is_halted s t) can)
   where
     by : (h : Bool) → cond (h || (is_shared d && held_by_another s.holder t)) blocked (act_free s t d) ≢ blocked → cond (h || (false && held_by_another s.holder t)) blocked (went s) ≡ went s

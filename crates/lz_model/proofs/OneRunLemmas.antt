@@ -27,7 +27,7 @@ use Rattle.lz_model.proofs.ScheduleLemmas.{has_choice, schedule_without_loc}
 -- ---- two traces of one thread
 
 -- one goes on where the other stops, or they part
-data Alike (xs ys : List Act) : Type 0 where
+pub data Alike (xs ys : List Act) : Type 0 where
   left_stops : (more : List Act) → ys ≡ xs ++ more → Alike xs ys
   right_stops : (more : List Act) → xs ≡ ys ++ more → Alike xs ys
   parted : Parts xs ys → Alike xs ys
@@ -240,12 +240,13 @@ made_started (e ∷ rest) s later t few made on =
 -- ---- two runs
 
 -- any two ways of one thread are alike; one thread is there at first
-record IsSure (process : Process) : Type 0 where
-  one : length process.begins.threads ≡ 1
-  main : (xs ys : List Act) → process.main xs → process.main ys → Alike xs ys
-  started : (routine argument : ℕ) (xs ys : List Act) → process.started routine argument xs → process.started routine argument ys → Alike xs ys
+pub record IsSure (process : Process) : Type 0 where
+  pub one : length process.begins.threads ≡ 1
+  pub main : (xs ys : List Act) → process.main xs → process.main ys → Alike xs ys
+  pub started : (routine argument : ℕ) (xs ys : List Act) → process.started routine argument xs → process.started routine argument ys → Alike xs ys
 
-sure_seen : (process : Process) → IsSure process → IsSure (bare process)
+-- the same with local actions left out
+pub sure_seen : (process : Process) → IsSure process → IsSure (bare process)
 sure_seen process p = record {
   one = p.one;
   main = λ xs ys h k. subst (λ (acts : List Act). Alike acts ys) h.seen (subst (λ (acts : List Act). Alike (without_loc h.full) acts) k.seen (alike_seen h.full k.full (p.main h.full k.full h.does k.does)));
@@ -254,7 +255,8 @@ sure_seen process p = record {
       (subst (λ (acts : List Act). Alike (without_loc h.full) acts) k.seen (alike_seen h.full k.full (p.started routine argument h.full k.full h.does k.does)));
 }
 
-sure_program : (p : ScopedProgram) (n : ℕ) → IsSure (process_of p n)
+-- a program's process is sure
+pub sure_program : (p : ScopedProgram) (n : ℕ) → IsSure (process_of p n)
 sure_program p n = record {
   one = refl;
   main = λ xs ys. alike_traces p n p.main [] true xs ys;

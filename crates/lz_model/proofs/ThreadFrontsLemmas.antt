@@ -9,7 +9,8 @@ use Rattle.lz_model.proofs.FrontsLemmas.{Fronts, splits, fronts_calls}
 use Rattle.lz_model.proofs.RunFrontsLemmas.{IsOpen}
 
 module _ {S A : Type 0} where
-  at_end : {code : Behaviour S A} {before : S} {whole : Bool} (w : Bool) (o : Outcome S A) → Fronts code → (front acts more z : List Act) → code before front o
+  -- a front of a thread's actions that goes past its code's, or ends with it
+  pub at_end : {code : Behaviour S A} {before : S} {whole : Bool} (w : Bool) (o : Outcome S A) → Fronts code → (front acts more z : List Act) → code before front o
       → ((acts : List Act) → acts ≡ front ++ end_of w ∷ [] → EndsThread code before whole acts) → acts ≡ front ++ z → end_of w ∷ [] ≡ z ++ more → EndsThread code before whole acts
   at_end {code} {before} w o f front acts more [] h ends e k =
       let same : acts ≡ front = e ∙ append-nil front in
@@ -18,7 +19,8 @@ module _ {S A : Type 0} where
   at_end w o f front acts more (x ∷ []) h ends e k = let last : end_of w ≡ x = cc in ends acts (e ∙ ap (λ (a : Act). front ++ a ∷ []) (sym last))
   at_end w o f front acts more (x ∷ y ∷ z) h ends e k = absurd cc
 
-  ends_front : {code : Behaviour S A} {before : S} {whole : Bool} → Fronts code → (acts more : List Act) → EndsThread code before whole (acts ++ more) → EndsThread code before whole acts
+  -- each front of a thread's actions is what the thread may do too
+  pub ends_front : {code : Behaviour S A} {before : S} {whole : Bool} → Fronts code → (acts more : List Act) → EndsThread code before whole (acts ++ more) → EndsThread code before whole acts
   ends_front {code} {before} f acts more (is_cut h) = is_cut (f.front before acts more cut h)
   ends_front {code} {before} {whole} f acts more (is_done front after v h e) =
       elim (splits acts more front (end_of whole ∷ []) e) [
@@ -31,11 +33,13 @@ module _ {S A : Type 0} where
         | inr z ↦ at_end w (exits w) f front acts more z.0 h (λ xs k. is_left front w h k) z.1 z.2
       ]
 
+-- a number that follows, with less asked of the later ones
 pub numbered_front : (o : Option Start) (next : ℕ) (P Q : ℕ → Type 0) → ((k : ℕ) → P k → Q k) → numbered_after o next P → numbered_after o next Q
 numbered_front None next P Q f h = f next h
 numbered_front (Some start) next P Q f h = (h.0, f (suc next) h.1)
 
-creates_front : (acts more : List Act) (next : ℕ) → CreatesFrom (acts ++ more) next → CreatesFrom acts next
+-- the threads that a front creates are numbered as in the whole
+pub creates_front : (acts more : List Act) (next : ℕ) → CreatesFrom (acts ++ more) next → CreatesFrom acts next
 creates_front [] more next h = tt
 creates_front (a ∷ acts) more next h = numbered_front (started_by a.action) next (CreatesFrom (acts ++ more)) (CreatesFrom acts) (λ k. creates_front acts more k) h
 

@@ -9,3 +9,4 @@ pub mod CodeTraces
 pub mod Programs
 pub mod WithoutLoc
 pub mod LeftOut
+pub mod CreateSites

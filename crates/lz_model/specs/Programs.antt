@@ -1,8 +1,9 @@
 -- Trusted: what the threads of a program may do, and when the program is violated within its bounds.
-use Rattle.std.specs.Prelude.{◌≡◌, ℕ, zero, suc, Bool, true, false, List, [], ◌∷◌, ◌++◌, Option, Some, None, slice_index_or, ⊤}
+use Rattle.std.specs.Prelude.{◌≡◌, ℕ, zero, suc, Bool, true, false, List, [], ◌∷◌, ◌++◌, Option, Some, None, ⊤}
 use Rattle.lz_base.specs.Words.{converted}
 use Rattle.lz_base.specs.declared.word.IntType.{IntType}
-use Rattle.lz_tree.specs.ScopedTrees.{ScopedProgram, ScopedDefinition, empty}
+pub use Rattle.lz_tree.specs.ScopedTrees.{function_at}
+use Rattle.lz_tree.specs.ScopedTrees.{ScopedProgram}
 use Rattle.lz_model.specs.declared.actions.Action.TheVariants.{End}
 use Rattle.lz_model.specs.Actions.{Act, Start, started_by}
 use Rattle.lz_model.specs.Store.{opening}
@@ -12,11 +13,6 @@ use Rattle.lz_model.specs.Interleavings.{Process}
 use Rattle.lz_model.specs.BrokenRuns.{IsViolated}
 
 -- ---- calls
-
--- the function of this number
-abbrev pub function_at : ScopedProgram → ℕ → ScopedDefinition
-function_at p function =
-    slice_index_or p.functions function (record { start = false; locals = 0; params = []; gives = None; body = empty })
 
 -- the value that a function gives behind its body: that which it returns, in the kind of its result, and 0 where
 -- it comes to its end

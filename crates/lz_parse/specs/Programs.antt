@@ -22,7 +22,7 @@ pub record BeginsProgram (front : List Token) : Type 0 where
   pub spells : SpellsExternals program.externals (front ++ behind)
 
 -- No program spells the tokens, and the token is the first with which none goes on: one begins with those before it, and
--- none with those up to and with it. Past the last token the line is the one at the end (`line_of` of lz_expr's Fronts).
+-- none with those up to and with it. Past the last token the line is the one at the end (`line_of` of lz_expr's Lines).
 pub record IsRefusedAt (tokens : Tokens) (token line : ℕ) : Type 0 where
   pub within : token ≤ length tokens.list
   pub before : BeginsProgram (take token tokens.list)

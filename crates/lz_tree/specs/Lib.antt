@@ -7,3 +7,5 @@ pub mod Height
 pub mod Languages
 pub mod Spelling
 pub mod WellFormed
+pub mod Kinds
+pub mod WellScoped

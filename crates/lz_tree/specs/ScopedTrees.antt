@@ -1,5 +1,5 @@
 -- Trusted: the trees of a program whose names are what they mean, as definitions read them, without pointers and capacities.
-use Rattle.std.specs.Prelude.{ℕ, Bool, List, [], ◌∷◌, map, Option, Some, None, option_map, Box}
+use Rattle.std.specs.Prelude.{ℕ, Bool, false, List, [], ◌∷◌, map, Option, Some, None, option_map, slice_index_or, Box}
 use Rattle.std.specs.declared.alloc.Global.{Global}
 use Rattle.lz_base.specs.declared.operator.Unary.{Unary}
 use Rattle.lz_base.specs.declared.operator.Binary.{Binary}
@@ -219,6 +219,11 @@ pub record ScopedProgram : Type 0 where
   pub handles : ℕ
   pub functions : List ScopedDefinition
   pub main : ℕ
+
+-- the function of this number
+abbrev pub function_at : ScopedProgram → ℕ → ScopedDefinition
+function_at p function =
+    slice_index_or p.functions function (record { start = false; locals = 0; params = []; gives = None; body = empty })
 
 -- what a function is without its pointers
 abbrev pub scoped_definition : ScopedFunction → ScopedDefinition

@@ -49,8 +49,19 @@ may_cast_to types.Mutex = false
 may_cast_to types.Cond = false
 may_cast_to _ = true
 
+-- whether an operator looks at its right operand only where it needs it
+abbrev pub is_logical : Binary → Bool
+is_logical ops.Both = true
+is_logical ops.Either = true
+is_logical _ = false
+
+-- an operator that comes before an assignment looks at both operands (C99 6.5.16)
+abbrev pub MayAssign : Option Binary → Type 0
+MayAssign None = Unit {0}
+MayAssign (Some op) = is_logical op ≡ false
+
 abbrev mutual
-  -- each operand has its level or a tighter one
+  -- each operand has its level or a tighter one, and assignments have their operators
   pub FitsExpression : Expression → Type 0
   FitsExpression (constant line value form) = Unit {0}
   FitsExpression (null line) = Unit {0}
@@ -62,7 +73,7 @@ abbrev mutual
   FitsExpression (cast line to e) = (may_cast_to to ≡ true) × (level e ≡ 0) × FitsExpression e
   FitsExpression (binary line op l r) = (level l ≤ looseness op) × (level r < looseness op) × FitsExpression l × FitsExpression r
   FitsExpression (choose line a b c) = (level a < 11) × (level c ≤ 11) × FitsExpression a × FitsExpression b × FitsExpression c
-  FitsExpression (assign line op at name index e) = FitsIndex index × FitsExpression e
+  FitsExpression (assign line op at name index e) = MayAssign op × FitsIndex index × FitsExpression e
   FitsExpression (step line at name index up before) = FitsIndex index
   FitsExpression (call line name args) = FitsAll args
 

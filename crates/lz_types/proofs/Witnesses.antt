@@ -557,7 +557,7 @@ refused_types = refl
 --     void reach_error(int a);
 --     void reach_error() { }
 --     int main(void){}
-pub other_prototypes : list_of (prototype 1 leads.Nothing types.Int 0 ([]) false ∷ prototype 2 leads.Nothing types.Unsigned 0 ([]) false ∷ prototype 3 leads.Nothing types.Int 0 (param 3 types.Int None ∷ []) false ∷ prototype 4 leads.Nothing types.Int 0 ([]) true ∷ prototype 5 leads.Nothing types.Int 0 (param 5 types.Int (Some 1) ∷ param 5 types.Int (Some 2) ∷ []) false ∷ prototype 6 leads.Nothing types.Int 0 (param 6 types.Unsigned (Some 1) ∷ []) false ∷ prototype 7 leads.Nothing types.Int 0 (param 7 types.Signed (Some 2) ∷ []) false ∷ function 8 false types.Int 0 (param 8 types.Int (Some 1) ∷ []) false (block (cons (return 8 (Some (object 8 1 whole))) nil)) ∷ prototype 9 leads.Nothing types.Int 3 (param 9 types.Int (Some 1) ∷ param 9 types.Int (Some 2) ∷ []) false ∷ prototype 10 leads.Nothing types.Int 4 (param 10 types.Int None ∷ []) false ∷ prototype 11 leads.Nothing types.Void 4 ([]) true ∷ prototype 12 leads.Nothing types.Void 5 (param 12 types.Int (Some 1) ∷ []) false ∷ function 13 false types.Void 5 ([]) false (block nil) ∷ function 14 false types.Int 6 ([]) true (block nil) ∷ []) (codes "f" ∷ codes "a" ∷ codes "b" ∷ codes "assert" ∷ codes "g" ∷ codes "reach_error" ∷ codes "main" ∷ []) (no_facts) ≡ broken 2 25 ∷ broken 4 25 ∷ broken 5 25 ∷ broken 6 25 ∷ broken 12 25 ∷ []
+pub other_prototypes : list_of (prototype 1 leads.Nothing types.Int 0 ([]) false ∷ prototype 2 leads.Nothing types.Unsigned 0 ([]) false ∷ prototype 3 leads.Nothing types.Int 0 (param 3 types.Int None ∷ []) false ∷ prototype 4 leads.Nothing types.Int 0 ([]) true ∷ prototype 5 leads.Nothing types.Int 0 (param 5 types.Int (Some 1) ∷ param 5 types.Int (Some 2) ∷ []) false ∷ prototype 6 leads.Nothing types.Int 0 (param 6 types.Unsigned (Some 1) ∷ []) false ∷ prototype 7 leads.Nothing types.Int 0 (param 7 types.Signed (Some 2) ∷ []) false ∷ function 8 false types.Int 0 (param 8 types.Int (Some 1) ∷ []) false (block (cons (return 8 (Some (object 8 1 whole))) nil)) ∷ prototype 9 leads.Nothing types.Int 3 (param 9 types.Int (Some 1) ∷ param 9 types.Int (Some 2) ∷ []) false ∷ prototype 10 leads.Nothing types.Int 4 (param 10 types.Int None ∷ []) false ∷ prototype 11 leads.Nothing types.Void 4 ([]) true ∷ prototype 12 leads.Nothing types.Void 5 (param 12 types.Int (Some 1) ∷ []) false ∷ function 13 false types.Void 5 ([]) false (block nil) ∷ function 14 false types.Int 6 ([]) true (block nil) ∷ []) (codes "f" ∷ codes "a" ∷ codes "b" ∷ codes "assert" ∷ codes "g" ∷ codes "reach_error" ∷ codes "main" ∷ []) (no_facts) ≡ broken 2 25 ∷ broken 4 25 ∷ broken 5 25 ∷ broken 6 25 ∷ []
 unfolding are_one_type constant_value known known_names after after_external type_of faults declarators_faults statement_faults params_faults external_faults externals_faults file_faults file_with
 other_prototypes = refl
 

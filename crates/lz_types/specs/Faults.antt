@@ -1,6 +1,7 @@
 -- Trusted: the list of all rules that a program breaks, in the order of the text: at each node its own ones by number, and then those of its parts from left to right.
 -- It is read with what is known of the whole file.
 use Rattle.std.specs.Prelude.{ℕ, nat_lt, Bool, true, false, not, ◌&&◌, ◌||◌, List, [], ◌∷◌, ◌++◌, map, length, Option, Some, None, is_some, if◌then◌else◌, slice_get}
+use Rattle.lz_base.specs.Limits.{element_limit}
 use Rattle.lz_tree.specs.declared.expression.TypeName.{TypeName}
 use Rattle.lz_tree.specs.declared.expression.TypeName.TheVariants as types
 use Rattle.lz_tree.specs.declared.program.Param.{Param}
@@ -123,10 +124,6 @@ is_bad_initializer of None (listed values comma) = true
 is_bad_initializer of (Some e) (listed values comma) = is_over (length_in (constant_value e)) (count values) || is_no_operand of
 is_bad_initializer of length mutex = is_some length || not (is_mutex of)
 is_bad_initializer of length cond = is_some length || not (is_cond of)
-
--- the most elements at file scope
-abbrev pub element_limit : ℕ
-element_limit = 65536
 
 module _ (file : File) (place : Place) where
   -- the rules that the name, the type and the length of a declarator break
@@ -278,14 +275,14 @@ abbrev pub is_defined_before : Option ℕ → ℕ → Bool
 is_defined_before None n = false
 is_defined_before (Some m) n = nat_lt m n
 
--- the rules that a prototype breaks by itself
+-- the rules that a prototype breaks by itself; one of a known name fits always
 abbrev pub prototype_rules : File → Place → TypeName → ℕ → List Param → Bool → List Rule
 prototype_rules file place gives name params void_word =
     values.when (has_object place name) DeclaredTwice
     ++ (values.when (is_no_operand (value_type gives)) TypeMisfit
     ++ (values.when (is_pointer (value_type gives) && not (is_start_form name gives params)) PointerOutsideStart
     ++ (values.when (is_refused gives) RefusedType
-    ++ values.when (not (takes_known file name) && is_other gives (bases params) void_word (definition file name)) OtherPrototype)))
+    ++ values.when (not (is_some (known_at file name)) && is_other gives (bases params) void_word (definition file name)) OtherPrototype)))
 
 -- the rules that a function with a body breaks by itself
 abbrev pub function_rules : File → Place → TypeName → ℕ → List Param → List Rule

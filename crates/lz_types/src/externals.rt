@@ -60,7 +60,7 @@ fn note_prototype(
     let pointer = is_stray_pointer(gives, params);
     push_when(faults, line, pointer, Rule::PointerOutsideStart)?;
     push_when(faults, line, is_refused(gives), Rule::RefusedType)?;
-    let other = !is_taken(file.known(name)) && differs(file, gives, name, params, void_word);
+    let other = file.known(name).is_none() && differs(file, gives, name, params, void_word);
     push_when(faults, line, other, Rule::OtherPrototype)?;
     Ok(())
 }

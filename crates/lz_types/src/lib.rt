@@ -12,3 +12,4 @@ mod walk;
 
 pub use checking::{Checked, check};
 pub use laws::{no_function_recurs, one_list_of_faults};
+pub use lz_scopes::TypeError;
