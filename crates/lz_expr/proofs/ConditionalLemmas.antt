@@ -230,7 +230,7 @@ module _ (h : ℕ) (inner : ℕ → Reader Token Expression) (rows : 0 < h → (
       let made : InExpression (suc h) 12 (assign line op at n i w) (u ++ v) = record {
         low = (let x = s.low in let y = w_in.low in omega arith);
         tight = omega arith;
-        fits = (may_of sign.0 op sign.1.1, s.fits, w_in.fits);
+        fits = (may_of sign.0 op sign.2, s.fits, w_in.fits);
         spells = (line_leads u v (some_text (object at n i) u s.spells) ∙ line_is, (u, v, refl, s.spells, (a, b, same, sign, w_in.spells)));
       } in
       subst (λ (e : Expression). InExpression (suc h) 12 e (u ++ v)) is made
