@@ -1,0 +1,5 @@
+pub mod ActsLemmas
+pub mod SimulatedLemmas
+pub mod QuietLemmas
+pub mod CorrespondsLemmas
+pub mod SameLemmas
