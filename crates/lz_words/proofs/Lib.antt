@@ -1,0 +1,3 @@
+mod NumbersLemmas
+mod CommandLineLemmas
+pub mod LawLemmas
