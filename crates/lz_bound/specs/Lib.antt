@@ -1,0 +1,5 @@
+pub mod BoundedTrees
+pub mod BoundedTraces
+pub mod CreateSites
+pub mod WellFormed
+pub mod SlottedPrograms
