@@ -1,21 +1,50 @@
--- Rounds: a run of at most so many rounds fits the blocks of so many rounds, and what fits them has at most so
+-- Rounds and their blocks: a run of at most so many rounds fits the blocks of so many rounds, and what fits them has at most so
 -- many.
-use Rattle.std.proofs.Common.{◌≡◌, ℕ, zero, suc, ◌+◌, ◌≤◌, ◌<◌, Bool, true, false, List, [], ◌∷◌, ◌++◌, eqb, refl, sym, subst, arith}
+use Rattle.std.proofs.Common.{◌≡◌, ℕ, zero, suc, ◌+◌, ◌≤◌, ◌<◌, Bool, true, false, List, [], ◌∷◌, ◌++◌, length, replicate, eqb, refl, sym, ap, subst, arith}
 use Rattle.std.specs.List.{AllByRecursion}
 use Rattle.std.proofs.lemmas.Bool.{eqb-true, eqb-false}
 use Rattle.lz_base.specs.Descents.{descents}
 use Rattle.lz_base.proofs.DescentsLemmas.{Fits, nothing, stay, next, down, down_lt, down_ge, Compared, lower, higher, compared, fewer_descents, without_first}
-use Rattle.lz_flat.specs.FlatRuns.{threads_from, blocks}
+use Rattle.lz_flat.specs.FlatRuns.{threads_from, blocks, opening}
+use Rattle.lz_flat.specs.Programs.{FlatProgram}
+
+-- ---- the threads of blocks
+
+-- each is one of so many threads
+abbrev pub AreThreads : ℕ → List ℕ → Type 0
+AreThreads threads run = AllByRecursion (λ thread. thread < threads) run
+
+-- what holds of each of two lists holds of both together
+all_append : (P : ℕ → Type 0) (xs ys : List ℕ) → AllByRecursion P xs → AllByRecursion P ys → AllByRecursion P (xs ++ ys)
+all_append P [] ys h k = k
+all_append P (x ∷ xs) ys h k = (h.0, all_append P xs ys h.1 k)
+
+-- the threads of a round are threads of the program
+threads_small : (thread more threads : ℕ) → thread + more ≤ threads → AreThreads threads (threads_from thread more)
+threads_small thread zero threads h = tt
+threads_small thread (suc more) threads h = (omega arith, threads_small (suc thread) more threads (omega arith))
+
+-- so those of all rounds
+pub blocks_small : (rounds threads : ℕ) → AreThreads threads (blocks rounds threads)
+blocks_small zero threads = tt
+blocks_small (suc rounds) threads =
+    all_append (λ t. t < threads) (threads_from 0 threads) (blocks rounds threads) (threads_small 0 threads threads (omega arith)) (blocks_small rounds threads)
+
+-- so many zeros are so many
+pub length_zeros : (n : ℕ) → length {A = ℕ} (replicate n 0) ≡ n
+length_zeros zero = refl
+length_zeros (suc n) = ap suc (length_zeros n)
+
+-- the threads of so many rounds of a program, as its places count them
+pub opening_threads : (flat : FlatProgram) (rounds : ℕ) → AreThreads (length (opening flat)) (blocks rounds (length flat.threads))
+opening_threads flat rounds =
+    subst (λ (t : ℕ). AreThreads t (blocks rounds (length flat.threads))) (sym (length_zeros (length flat.threads))) (blocks_small rounds (length flat.threads))
 
 -- ---- a run of few rounds fits
 
--- each step is of one of so many threads
-abbrev Small : ℕ → List ℕ → Type 0
-Small threads run = AllByRecursion (λ thread. thread < threads) run
-
 -- the step u, by whether it is of the block's thread t
-by_thread : (threads rounds t : ℕ) (bs : List ℕ) → ((run : List ℕ) → Small threads run → descents (suc t ∷ run) ≤ rounds → Fits run bs)
-    → (u : ℕ) (run : List ℕ) → Small threads (u ∷ run) → descents (t ∷ u ∷ run) ≤ rounds → (descents (t ∷ run) ≤ rounds → Fits run (t ∷ bs))
+by_thread : (threads rounds t : ℕ) (bs : List ℕ) → ((run : List ℕ) → AreThreads threads run → descents (suc t ∷ run) ≤ rounds → Fits run bs)
+    → (u : ℕ) (run : List ℕ) → AreThreads threads (u ∷ run) → descents (t ∷ u ∷ run) ≤ rounds → (descents (t ∷ run) ≤ rounds → Fits run (t ∷ bs))
     → (same : Bool) → eqb u t ≡ same → Fits (u ∷ run) (t ∷ bs)
 by_thread threads rounds t bs later u run small few again true e =
     let same : t ≡ u = sym (eqb-true u t e) in
@@ -31,27 +60,27 @@ by_thread threads rounds t bs later u run small few again false e =
     fewer (higher h k) (higher h' k') = omega (arith, few, k, k')
 
 -- a block of the thread t, where what follows takes what comes after t
-at_thread : (threads rounds t : ℕ) (bs : List ℕ) → ((run : List ℕ) → Small threads run → descents (suc t ∷ run) ≤ rounds → Fits run bs)
-    → (run : List ℕ) → Small threads run → descents (t ∷ run) ≤ rounds → Fits run (t ∷ bs)
+at_thread : (threads rounds t : ℕ) (bs : List ℕ) → ((run : List ℕ) → AreThreads threads run → descents (suc t ∷ run) ≤ rounds → Fits run bs)
+    → (run : List ℕ) → AreThreads threads run → descents (t ∷ run) ≤ rounds → Fits run (t ∷ bs)
 at_thread threads rounds t bs later [] small few = nothing
 at_thread threads rounds t bs later (u ∷ run) small few =
     by_thread threads rounds t bs later u run small few (at_thread threads rounds t bs later run small.1) (eqb u t) refl
 
 -- the rest of a round, from the thread t on
-in_round : (threads rounds : ℕ) (bs : List ℕ) → ((run : List ℕ) → Small threads run → descents (threads ∷ run) ≤ rounds → Fits run bs)
-    → (more t : ℕ) → t + more ≡ threads → (run : List ℕ) → Small threads run → descents (t ∷ run) ≤ rounds → Fits run (threads_from t more ++ bs)
+in_round : (threads rounds : ℕ) (bs : List ℕ) → ((run : List ℕ) → AreThreads threads run → descents (threads ∷ run) ≤ rounds → Fits run bs)
+    → (more t : ℕ) → t + more ≡ threads → (run : List ℕ) → AreThreads threads run → descents (t ∷ run) ≤ rounds → Fits run (threads_from t more ++ bs)
 in_round threads rounds bs later zero t e run small few = later run small (let same : t ≡ threads = omega arith in subst (λ (k : ℕ). descents (k ∷ run) ≤ rounds) same few)
 in_round threads rounds bs later (suc more) t e run small few =
     at_thread threads rounds t (threads_from (suc t) more ++ bs) (in_round threads rounds bs later more (suc t) (omega arith)) run small few
 
 -- from the end of a round on
-from_end : (rounds threads : ℕ) (run : List ℕ) → Small threads run → descents (threads ∷ run) ≤ rounds → Fits run (blocks rounds threads)
+from_end : (rounds threads : ℕ) (run : List ℕ) → AreThreads threads run → descents (threads ∷ run) ≤ rounds → Fits run (blocks rounds threads)
 from_end zero threads [] small few = nothing
 from_end zero threads (u ∷ run) small few = let d = down_lt threads u small.0 in absurd (let z : ⊥ = omega (arith, few, d) in z)
 from_end (suc rounds) threads run small few =
     in_round threads rounds (blocks rounds threads) (from_end rounds threads) threads 0 (omega arith) run small (from_zero run small few)
   where
-    from_zero : (run : List ℕ) → Small threads run → descents (threads ∷ run) ≤ suc rounds → descents (0 ∷ run) ≤ rounds
+    from_zero : (run : List ℕ) → AreThreads threads run → descents (threads ∷ run) ≤ suc rounds → descents (0 ∷ run) ≤ rounds
     from_zero [] small few = omega arith
     from_zero (u ∷ run) small few =
         let d = down_lt threads u small.0 in
@@ -59,7 +88,7 @@ from_end (suc rounds) threads run small few =
         omega (arith, few, d, z)
 
 -- THE FITTING LEMMA
-pub fits_rounds : (rounds threads : ℕ) (run : List ℕ) → Small threads run → descents run + 1 ≤ rounds → Fits run (blocks rounds threads)
+pub fits_rounds : (rounds threads : ℕ) (run : List ℕ) → AreThreads threads run → descents run + 1 ≤ rounds → Fits run (blocks rounds threads)
 fits_rounds rounds threads [] small few = nothing
 fits_rounds rounds threads (u ∷ run) small few =
     from_end rounds threads (u ∷ run) small (let d = down_lt threads u small.0 in omega (arith, few, d))

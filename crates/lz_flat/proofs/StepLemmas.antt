@@ -11,7 +11,7 @@ use Rattle.lz_flat.specs.Programs.{Instruction, sets, takes, assumes, checks, sk
 use Rattle.lz_flat.specs.Instructions.{moved, blocked, broke, value, did}
 use Rattle.lz_flat.specs.FlatRuns.{Ran, went, held, breaks, ended, onward, step}
 use Rattle.lz_flat.specs.WellFormed.{IsWord, IsInstructionOf, IsMarkedSo, IsForward, IsCodeOf}
-use Rattle.lz_flat.specs.Steps.{Performs, RunsOn, Steps, onward_count, step_count}
+use Rattle.lz_flat.specs.Steps.{Performs, RunsOn, Steps, stepped_so, onward_count, step_count}
 
 -- ---- passing over instructions
 
@@ -292,14 +292,14 @@ step_counts code input at memory after next over lt e performs =
 
 -- a step whose first instruction stops stops
 pub step_halts : (code : List Marked) (input : ℕ → ℕ) (at : ℕ) (memory after : List ℕ) (next : Marked) (halt : Halt) → at < length code → next ≡ get_or code at next
-    → Performs (instruction next.instr) (input at) memory after (Err halt) → Steps (map marked code) input at at memory after (Err halt)
+    → Performs (instruction next.instr) (input at) memory after (Err halt) → Steps (map marked code) input at at memory after (stepped_so (Err halt))
 step_halts code input at memory after next halts.Blocked lt e performs = (step_blocked code input at memory after next lt e performs, refl, performs.1)
 step_halts code input at memory after next (halts.Broke kind line) lt e performs = (step_breaks code input at memory after next kind line lt e performs, refl)
 
 -- so does one that is stopped behind its first instruction
 pub step_halts_behind : (code : List Marked) (input : ℕ → ℕ) (at : ℕ) (memory after later : List ℕ) (next : Marked) (over : ℕ) (halt : Halt) → at < length code → next ≡ get_or code at next
     → Performs (instruction next.instr) (input at) memory after (Ok over) → RunsOn (map marked code) input (at + (1 + over)) after later (Err halt)
-    → Steps (map marked code) input at at memory later (Err halt)
+    → Steps (map marked code) input at at memory later (stepped_so (Err halt))
 step_halts_behind code input at memory after later next over halts.Blocked lt e performs runs = absurd runs
 step_halts_behind code input at memory after later next over (halts.Broke kind line) lt e performs runs =
     (step_moves code input at memory after next over (breaks kind line) lt e performs runs, refl)

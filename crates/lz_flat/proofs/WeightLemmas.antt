@@ -6,37 +6,45 @@ use Rattle.lz_base.specs.declared.operator.Unary.TheVariants.{Plus, Minus, Inver
 use Rattle.lz_base.specs.declared.operator.Binary.{Binary}
 use Rattle.lz_base.specs.declared.operator.Binary.TheVariants.{Mul, Div, Rem, Add, Sub, Shl, Shr, Lt, Gt, Le, Ge, Eq, Ne, BitAnd, BitXor, BitOr, Both, Either}
 use Rattle.lz_flat.specs.Programs.{Expression, constant, word, element, unary, binary, convert, choose, Instruction, sets, takes, assumes, checks, skips, MarkedInstruction, Statement}
-use Rattle.lz_flat.specs.Weight.{unary_number, binary_number, long_index_number, element_number, write_number, expression_weight, statement_number, list_weight, instruction_number, code_weight, threads_weight}
+use Rattle.lz_flat.specs.Weight.{constant_number, unary_number, binary_number, long_index_number, element_number, write_number, expression_weight, statement_number, list_weight, instruction_number, code_weight, threads_weight}
 
--- ---- each number is at least 1
+-- ---- each number is at least 1, and that of an operator no less than that of a constant
 
--- the number of a unary operator is not 0
+-- the number of a unary operator is no less than that of a constant
+pub unary_least : (op : Unary) → constant_number ≤ unary_number op
+unary_least Plus = omega arith
+unary_least Minus = omega arith
+unary_least Invert = omega arith
+unary_least Not = omega arith
+
+-- nor is that of a binary one
+pub binary_least : (op : Binary) → constant_number ≤ binary_number op
+binary_least Mul = omega arith
+binary_least Div = omega arith
+binary_least Rem = omega arith
+binary_least Add = omega arith
+binary_least Sub = omega arith
+binary_least Shl = omega arith
+binary_least Shr = omega arith
+binary_least Lt = omega arith
+binary_least Gt = omega arith
+binary_least Le = omega arith
+binary_least Ge = omega arith
+binary_least Eq = omega arith
+binary_least Ne = omega arith
+binary_least BitAnd = omega arith
+binary_least BitXor = omega arith
+binary_least BitOr = omega arith
+binary_least Both = omega arith
+binary_least Either = omega arith
+
+-- so the number of a unary operator is not 0
 pub unary_positive : (op : Unary) → 1 ≤ unary_number op
-unary_positive Plus = omega arith
-unary_positive Minus = omega arith
-unary_positive Invert = omega arith
-unary_positive Not = omega arith
+unary_positive op = let h = unary_least op in omega (arith, h)
 
--- nor that of a binary one
+-- nor is that of a binary one
 pub binary_positive : (op : Binary) → 1 ≤ binary_number op
-binary_positive Mul = omega arith
-binary_positive Div = omega arith
-binary_positive Rem = omega arith
-binary_positive Add = omega arith
-binary_positive Sub = omega arith
-binary_positive Shl = omega arith
-binary_positive Shr = omega arith
-binary_positive Lt = omega arith
-binary_positive Gt = omega arith
-binary_positive Le = omega arith
-binary_positive Ge = omega arith
-binary_positive Eq = omega arith
-binary_positive Ne = omega arith
-binary_positive BitAnd = omega arith
-binary_positive BitXor = omega arith
-binary_positive BitOr = omega arith
-binary_positive Both = omega arith
-binary_positive Either = omega arith
+binary_positive op = let h = binary_least op in omega (arith, h)
 
 -- nor that of an element
 pub element_positive : (len : ℕ) → 1 ≤ element_number len

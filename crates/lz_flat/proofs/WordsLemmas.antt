@@ -1,4 +1,4 @@
--- An expression's value and an instruction's effect depend on the words that they name alone.
+-- What stands behind the words of a program does not matter to its code, and an instruction keeps their number.
 use Rattle.std.proofs.Common.{◌≡◌, ℕ, ◌+◌, ◌<◌, Bool, true, false, cond, List, ◌++◌, length, nat_lt, refl, ◌∙◌, arith}
 use Rattle.std.specs.Prelude.{slice_index, slice_set, ◌==◌, if◌then◌else◌, ⊤}
 use Rattle.std.proofs.lemmas.List.{get_or_append_left, set-append_left, length-set}
@@ -74,21 +74,21 @@ did_laid n (checks test kind line) input words rest long is =
 did_laid n (skips test by) input words rest long is = rw (value_laid n test words rest long is) refl
 
 -- the number of words stays
-abbrev pub Keeps : ℕ → Did → Type 0
-Keeps n (moved over memory) = length memory ≡ n
-Keeps n blocked = ⊤
-Keeps n (broke kind line) = ⊤
+abbrev pub KeepsLength : ℕ → Did → Type 0
+KeepsLength n (moved over memory) = length memory ≡ n
+KeepsLength n blocked = ⊤
+KeepsLength n (broke kind line) = ⊤
 
 -- a choice keeps the number of words where both sides do
-keeps_cond : (n : ℕ) (b : Bool) (d e : Did) → Keeps n d → Keeps n e → Keeps n (cond b d e)
+keeps_cond : (n : ℕ) (b : Bool) (d e : Did) → KeepsLength n d → KeepsLength n e → KeepsLength n (cond b d e)
 keeps_cond n true d e h k = h
 keeps_cond n false d e h k = k
 
 -- an instruction keeps the number of words
-pub did_keeps : (n : ℕ) (i : Instruction) (input : ℕ) (words : List ℕ) → length words ≡ n → Keeps n (did i input words)
+pub did_keeps_length : (n : ℕ) (i : Instruction) (input : ℕ) (words : List ℕ) → length words ≡ n → KeepsLength n (did i input words)
 unfolding did
-did_keeps n (sets to of) input words long = length_put to (value of words) words ∙ long
-did_keeps n (takes to) input words long = length_put to input words ∙ long
-did_keeps n (assumes test) input words long = keeps_cond n (value test words == 0) blocked (moved 0 words) tt long
-did_keeps n (checks test kind line) input words long = keeps_cond n (value test words == 0) (broke kind line) (moved 0 words) tt long
-did_keeps n (skips test by) input words long = long
+did_keeps_length n (sets to of) input words long = length_put to (value of words) words ∙ long
+did_keeps_length n (takes to) input words long = length_put to input words ∙ long
+did_keeps_length n (assumes test) input words long = keeps_cond n (value test words == 0) blocked (moved 0 words) tt long
+did_keeps_length n (checks test kind line) input words long = keeps_cond n (value test words == 0) (broke kind line) (moved 0 words) tt long
+did_keeps_length n (skips test by) input words long = long

@@ -5,4 +5,8 @@ pub mod StraightRuns
 pub mod WellFormed
 pub mod Lengths
 pub mod Steps
+pub mod Places
+pub mod DrivenRuns
+pub mod Naming
+pub mod Running
 pub mod Weight

@@ -1,12 +1,14 @@
 -- Inner: what the calls that run instructions leave behind.
-use Rattle.std.specs.Prelude.{◌≡◌, ◌≢◌, ◌⊎◌, ℕ, zero, suc, List, [], ◌∷◌, drop, Result, Ok, Err, if◌then◌else◌}
+use Rattle.std.specs.Prelude.{◌≡◌, ◌≢◌, ◌⊎◌, ℕ, zero, suc, List, [], ◌∷◌, ◌++◌, length, drop, Result, Ok, Err, if◌then◌else◌}
+use Rattle.lz_base.specs.declared.word.BreakKind.{BreakKind}
 use Rattle.lz_flat.specs.declared.perform.Halt.{Halt}
 use Rattle.lz_flat.specs.declared.perform.Halt.TheVariants as halts
 use Rattle.lz_flat.specs.declared.step.Stepped.{Stepped}
 use Rattle.lz_flat.specs.declared.step.Stepped.TheVariants as stepped
-use Rattle.lz_flat.specs.Programs.{Instruction, MarkedInstruction, Statement}
+use Rattle.lz_flat.specs.Programs.{Expression, Instruction, checks, MarkedInstruction, Statement}
 use Rattle.lz_flat.specs.Instructions.{Did, moved, blocked, broke, value, did}
 use Rattle.lz_flat.specs.FlatRuns.{went, held, breaks, ended, onward, step}
+use Rattle.lz_flat.specs.Places.{places_run}
 
 -- an instruction came to this, from one memory to another
 abbrev pub Performs : Instruction → ℕ → List ℕ → List ℕ → Result ℕ Halt → Type 0
@@ -49,13 +51,20 @@ RunsOn code input from before after (Ok end) =
 RunsOn code input from before after (Err halts.Blocked) = ⊥
 RunsOn code input from before after (Err (halts.Broke kind line)) = onward input from (drop from code) 0 before ≡ breaks kind line
 
--- a step came to this, and led from one place and memory to another
-abbrev pub Steps : List MarkedInstruction → (ℕ → ℕ) → ℕ → ℕ → List ℕ → List ℕ → Result Stepped Halt → Type 0
-Steps code input place next before after (Ok (stepped.Went used)) =
+-- what a step came to that ran so many instructions or was stopped
+abbrev pub stepped_so : Result ℕ Halt → Stepped
+stepped_so (Ok used) = stepped.Went used
+stepped_so (Err halts.Blocked) = stepped.Blocked
+stepped_so (Err (halts.Broke kind line)) = stepped.Broke kind line
+
+-- A step came to this, and led from one place and memory to another. It is blocked exactly where its first
+-- instruction is an assumption of 0, and has ended exactly where no instruction is left.
+abbrev pub Steps : List MarkedInstruction → (ℕ → ℕ) → ℕ → ℕ → List ℕ → List ℕ → Stepped → Type 0
+Steps code input place next before after (stepped.Went used) =
     (step input code place before ≡ went next after) × (used ≡ step_count input code place before)
-Steps code input place next before after (Err halts.Blocked) = (step input code place before ≡ held) × (next ≡ place) × (after ≡ before)
-Steps code input place next before after (Err (halts.Broke kind line)) = (step input code place before ≡ breaks kind line) × (next ≡ place)
-Steps code input place next before after (Ok stepped.Ended) = (step input code place before ≡ ended) × (next ≡ place) × (after ≡ before)
+Steps code input place next before after stepped.Blocked = (step input code place before ≡ held) × (next ≡ place) × (after ≡ before)
+Steps code input place next before after (stepped.Broke kind line) = (step input code place before ≡ breaks kind line) × (next ≡ place)
+Steps code input place next before after stepped.Ended = (step input code place before ≡ ended) × (next ≡ place) × (after ≡ before)
 
 -- a statement came to this, from one memory to another
 abbrev pub PerformsGuarded : Statement → ℕ → List ℕ → List ℕ → Result ℕ Halt → Type 0
@@ -65,3 +74,32 @@ PerformsGuarded statement input before after (Err halts.Blocked) =
     (value statement.guard before ≢ 0) × (did statement.instr input before ≡ blocked)
 PerformsGuarded statement input before after (Err (halts.Broke kind line)) =
     (value statement.guard before ≢ 0) × (did statement.instr input before ≡ broke kind line)
+
+-- ---- which places a step runs
+
+-- a check of this kind and line stands at this place of the code
+pub record IsCheckAt (code : List MarkedInstruction) (place : ℕ) (kind : BreakKind) (line : ℕ) : Type 0 where
+  pub test : Expression
+  pub first : MarkedInstruction
+  pub rest : List MarkedInstruction
+  pub stands : drop place code ≡ first ∷ rest
+  pub checks_ : first.instr ≡ checks test kind line
+
+-- the last of these places is that of a check of this kind and line
+pub record EndsAtCheck (code : List MarkedInstruction) (places : List ℕ) (kind : BreakKind) (line : ℕ) : Type 0 where
+  pub front : List ℕ
+  pub last : ℕ
+  pub are : places ≡ front ++ last ∷ []
+  pub check : IsCheckAt code last kind line
+
+-- a step that goes runs as many places as instructions
+abbrev pub RunsItsCount : Type 0
+RunsItsCount =
+    (input : ℕ → ℕ) (code : List MarkedInstruction) (place : ℕ) (memory : List ℕ) (next : ℕ) (after : List ℕ) → step input code place memory ≡ went next after
+    → length (places_run input code place memory) ≡ step_count input code place memory
+
+-- the last place of a step that breaks is that of a check of the kind and line at which it breaks
+abbrev pub BreaksAtItsLast : Type 0
+BreaksAtItsLast =
+    (input : ℕ → ℕ) (code : List MarkedInstruction) (place : ℕ) (memory : List ℕ) (kind : BreakKind) (line : ℕ) → step input code place memory ≡ breaks kind line
+    → EndsAtCheck code (places_run input code place memory) kind line

@@ -1,5 +1,6 @@
 -- Inner: the weight of flat and straight programs, a sum of numbers from one table.
--- A number bounds the variables that its operator, its statement or its instruction takes in the formula.
+-- A number bounds the variables that its operator, its statement or its instruction takes in the formula. None of
+-- an operator is below that of a constant, so that no fold to a constant weighs more.
 use Rattle.std.specs.Prelude.{ℕ, ◌+◌, ◌*◌, ◌/◌, nat_le, Bool, true, false, List, [], ◌∷◌, if◌then◌else◌}
 use Rattle.lz_base.specs.declared.operator.Unary.{Unary}
 use Rattle.lz_base.specs.declared.operator.Unary.TheVariants.{Plus, Minus, Invert, Not}
@@ -23,7 +24,7 @@ input_number = 34
 
 -- a conversion
 abbrev pub convert_number : ℕ
-convert_number = 1
+convert_number = 2
 
 -- a choice
 abbrev pub choose_number : ℕ
@@ -31,10 +32,10 @@ choose_number = 33
 
 -- a unary operator
 abbrev pub unary_number : Unary → ℕ
-unary_number Plus = 1
+unary_number Plus = 2
 unary_number Minus = 96
-unary_number Invert = 1
-unary_number Not = 1
+unary_number Invert = 2
+unary_number Not = 2
 
 -- a binary operator
 abbrev pub binary_number : Binary → ℕ
@@ -81,15 +82,15 @@ set_number = 4
 
 -- one that takes an input
 abbrev pub take_number : ℕ
-take_number = 39
+take_number = 40
 
 -- an assumption
 abbrev pub assume_number : ℕ
-assume_number = 11
+assume_number = 12
 
 -- a check
 abbrev pub check_number : ℕ
-check_number = 14
+check_number = 15
 
 -- Instructions of flat programs, but for where they write to: each stands for three statements.
 -- an instruction that sets a word
@@ -98,19 +99,19 @@ set_instruction = 131
 
 -- one that takes an input
 abbrev pub take_instruction : ℕ
-take_instruction = 166
+take_instruction = 167
 
 -- an assumption
 abbrev pub assume_instruction : ℕ
-assume_instruction = 138
+assume_instruction = 139
 
 -- a check
 abbrev pub check_instruction : ℕ
-check_instruction = 141
+check_instruction = 142
 
 -- a skip
 abbrev pub skip_instruction : ℕ
-skip_instruction = 175
+skip_instruction = 176
 
 -- what a visible one has more
 abbrev pub visible_number : ℕ
@@ -118,7 +119,7 @@ visible_number = 71
 
 -- a thread, which stands for twelve statements
 abbrev pub thread_number : ℕ
-thread_number = 440
+thread_number = 450
 
 -- ---- weights
 

@@ -45,8 +45,13 @@ pub fn choose_expr(
     })
 }
 
-/// The expression that names a word by an index.
-fn element_expr(alloc: Global, first: u32, len: u32, index: FlatExpr) -> Result<FlatExpr, Memory>
+/// The expression that reads one of `len` words from `first` on, by an index.
+pub fn element_expr(
+    alloc: Global,
+    first: u32,
+    len: u32,
+    index: FlatExpr,
+) -> Result<FlatExpr, Memory>
     ensures { IfOk result (λ made. expression made ≡ spec.element first len (expression index)) }
 {
     let index = Box::new(alloc, index)?;
@@ -54,7 +59,7 @@ fn element_expr(alloc: Global, first: u32, len: u32, index: FlatExpr) -> Result<
 }
 
 /// The expression `op of` at an operand of a kind.
-fn unary_expr(alloc: Global, op: Unary, kind: IntType, of: FlatExpr) -> Result<FlatExpr, Memory>
+pub fn unary_expr(alloc: Global, op: Unary, kind: IntType, of: FlatExpr) -> Result<FlatExpr, Memory>
     ensures { IfOk result (λ made. expression made ≡ spec.unary op kind (expression of)) }
 {
     let of = Box::new(alloc, of)?;
@@ -62,7 +67,12 @@ fn unary_expr(alloc: Global, op: Unary, kind: IntType, of: FlatExpr) -> Result<F
 }
 
 /// The expression that converts from one kind to another.
-fn convert_expr(alloc: Global, from: IntType, to: IntType, of: FlatExpr) -> Result<FlatExpr, Memory>
+pub fn convert_expr(
+    alloc: Global,
+    from: IntType,
+    to: IntType,
+    of: FlatExpr,
+) -> Result<FlatExpr, Memory>
     ensures { IfOk result (λ made. expression made ≡ spec.convert from to (expression of)) }
 {
     let of = Box::new(alloc, of)?;

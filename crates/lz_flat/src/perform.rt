@@ -34,7 +34,7 @@ fn write(to: &Spot, value: Value, memory: &mut [Value])
 
 /// Performs an instruction with its input, and moves on over so many of the instructions behind it.
 #[tactic(auto, unfolding(crate::specs::Instructions::did))]
-pub fn perform(instr: &Instr, input: Value, memory: &mut [Value]) -> Result<u32, Halt>
+pub fn perform_instr(instr: &Instr, input: Value, memory: &mut [Value]) -> Result<u32, Halt>
     requires within { IsInstructionOf (length memory.old) (instruction instr.now) }
     requires words { All IsWord memory.old }
     requires word { IsWord input }

@@ -6,7 +6,7 @@ ghost use Rattle.lz_flat.specs.StraightRuns.{FailsOn};
 ghost use Rattle.lz_flat.specs.Steps.{Performs, PerformsGuarded};
 
 use crate::evaluate::evaluate;
-use crate::perform::{Halt, perform};
+use crate::perform::{Halt, perform_instr};
 use crate::program::{Guarded, Straight};
 use lz_base::Value;
 
@@ -21,7 +21,7 @@ fn perform_guarded(next: &Guarded, input: Value, memory: &mut [Value]) -> Result
     if evaluate(&next.guard, memory) == 0 {
         return Ok(0);
     }
-    perform(&next.instr, input, memory)
+    perform_instr(&next.instr, input, memory)
 }
 
 /// Whether the straight program fails on these inputs: some check of 0 is met, and no assumption of 0

@@ -8,8 +8,8 @@ returns-then-next-clause-runs c =
     let ends = left_stops c.index-code-at.result c.loop-at.invariant c.loop-at-test.true c.index-code-at.is c.if-next.true in
     (ends.led, ends.count)
 
-pub perform-requires-clause-within : goal.perform-requires-clause-within
-perform-requires-clause-within c =
+pub perform_instr-requires-clause-within : goal.perform_instr-requires-clause-within
+perform_instr-requires-clause-within c =
     let fact = instruction_at _ _ _ c.index-code-at.result c.requires.code c.loop-at-test.true c.index-code-at.is in
     rw c.loop-at.invariant.size fact.named
 
