@@ -1,11 +1,11 @@
 -- The straight program fails exactly where its inputs drive a break.
-use Rattle.std.proofs.Common.{◌≡◌, ℕ, zero, suc, ◌+◌, ◌*◌, ◌≤◌, ◌<◌, Bool, true, false, not, ◌&&◌, cond, List, [], ◌∷◌, ◌++◌, length, drop, nat_lt, eqb, replicate, refl, sym, ◌∙◌, ap, subst, arith}
+use Rattle.std.proofs.Common.{◌≡◌, ℕ, zero, suc, ◌+◌, ◌*◌, ◌<◌, Bool, true, false, not, ◌&&◌, cond, List, [], ◌∷◌, ◌++◌, length, drop, nat_lt, eqb, replicate, refl, sym, ◌∙◌, ap, subst, arith}
 use Rattle.std.specs.Prelude.{slice_index, slice_set, slice_index_or, ◌==◌, ⊤, ◌↔◌}
 use Rattle.std.specs.List.{AllByRecursion}
 use Rattle.std.proofs.lemmas.List.{length-set, length-append, get_or-set_same, get_or-set_other}
 use Rattle.std.proofs.lemmas.Bool.{eqb-true, eqb-false}
 use Rattle.lz_base.specs.declared.word.BreakKind.{BreakKind}
-use Rattle.lz_flat.specs.FlatRuns.{Ran, went, held, breaks, ended, behind, below, Course, going, stuck, broken, block_behind, source, block_length, driven, blocks, threads_from, opening, DrivesBreak}
+use Rattle.lz_flat.specs.FlatRuns.{Ran, went, held, breaks, ended, behind, below, Course, going, stuck, broken, block_behind, source, block_length, driven, blocks, opening, DrivesBreak}
 use Rattle.lz_flat.specs.Instructions.{value, put, Did, moved, blocked, broke, did}
 use Rattle.lz_flat.specs.Programs.{sets, takes, MarkedInstruction, FlatProgram, code_of, Statement}
 use Rattle.lz_flat.specs.StraightRuns.{Fate, still, stops, fails, fate_behind, straight}
@@ -13,7 +13,8 @@ use Rattle.lz_flat.specs.WellFormed.{IsCodeOf, BeginsVisible, IsWellMarked}
 use Rattle.lz_lazy.specs.Encoding.{whole, guess_place, flag_place, runs_next, clamp, mask_of, idle, always, head, encoded, encoded_blocks, encoding, encoded_first}
 use Rattle.lz_base.specs.Words.{value_bound}
 use Rattle.lz_flat.proofs.LandingLemmas.{drop-none, drop-next, begins, begins_none}
-use Rattle.lz_flat.proofs.WordsLemmas.{Keeps, did_keeps}
+use Rattle.lz_flat.proofs.RoundsLemmas.{AreThreads, opening_threads}
+use Rattle.lz_flat.proofs.WordsLemmas.{KeepsLength, did_keeps_length}
 use Rattle.lz_lazy.proofs.GuessesLemmas.{clamped, clamped_below}
 use Rattle.lz_lazy.proofs.MasksLemmas.{IsMask, mask_is, mask_enough}
 use Rattle.lz_lazy.proofs.OnePassLemmas.{pass, one_pass}
@@ -110,7 +111,7 @@ WentWell n code (breaks kind line) = ⊤
 WentWell n code ended = ⊤
 
 -- behind an instruction all is well where each way on is
-well_behind : (n : ℕ) (code : List MarkedInstruction) (d : Did) (f : ℕ → List ℕ → Ran) → Keeps n d → ((over : ℕ) (m : List ℕ) → length m ≡ n → WentWell n code (f over m)) → WentWell n code (behind d f)
+well_behind : (n : ℕ) (code : List MarkedInstruction) (d : Did) (f : ℕ → List ℕ → Ran) → KeepsLength n d → ((over : ℕ) (m : List ℕ) → length m ≡ n → WentWell n code (f over m)) → WentWell n code (behind d f)
 well_behind n code (moved over memory) f keeps h = h over memory keeps
 well_behind n code blocked f keeps h = tt
 well_behind n code (broke kind line) f keeps h = tt
@@ -130,7 +131,7 @@ pass_well n guess input code [] l over memory e long = (long, begins_none (drop 
 pass_well n guess input code (first ∷ rest) l (suc over) memory e long = pass_well n guess input code rest (suc l) over memory (drop-next code l first rest e) long
 pass_well n guess input code (first ∷ rest) l zero memory e long =
     well_cond n code l first rest memory first.visible (not (nat_lt l guess)) (behind (did first.instr (input l) memory) (pass guess input (suc l) rest)) refl e long
-    (well_behind n code (did first.instr (input l) memory) (pass guess input (suc l) rest) (did_keeps n first.instr (input l) memory long)
+    (well_behind n code (did first.instr (input l) memory) (pass guess input (suc l) rest) (did_keeps_length n first.instr (input l) memory long)
     (λ over m k. pass_well n guess input code rest (suc l) over m (drop-next code l first rest e) k))
 
 -- ---- a block
@@ -190,10 +191,6 @@ stand_after flat places thread place lt all here other = decide (eqb other threa
         (rw (get_or-set_same places thread place 0 lt) here)
     decide false e = rw (get_or-set_other places thread other place 0 (eqb-false other thread e)) (all other)
 
--- each is one of so many threads
-abbrev pub AreThreads : ℕ → List ℕ → Type 0
-AreThreads threads run = AllByRecursion (λ thread. thread < threads) run
-
 -- behind a block come the others, from where it leads
 next_block : (input : ℕ → ℕ) (flat : FlatProgram) (o n thread : ℕ) (rest : List ℕ) (places : List ℕ) (r : Ran) → thread < length places → AllStand flat places → WentWell n (code_of flat thread) r
     → ((guess flag : ℕ) (ps m : List ℕ) → length m ≡ n → length ps ≡ length places → AllStand flat ps
@@ -233,32 +230,12 @@ all_at P [] (suc k) all none = none
 all_at P (x ∷ xs) zero all none = all.0
 all_at P (x ∷ xs) (suc k) all none = all_at P xs k all.1 none
 
--- what holds of each of two lists holds of both together
-all_append : (P : ℕ → Type 0) (xs ys : List ℕ) → AllByRecursion P xs → AllByRecursion P ys → AllByRecursion P (xs ++ ys)
-all_append P [] ys h k = k
-all_append P (x ∷ xs) ys h k = (h.0, all_append P xs ys h.1 k)
-
--- the threads of a round are threads of the program
-threads_small : (thread more threads : ℕ) → thread + more ≤ threads → AreThreads threads (threads_from thread more)
-threads_small thread zero threads h = tt
-threads_small thread (suc more) threads h = (omega arith, threads_small (suc thread) more threads (omega arith))
-
--- so those of all rounds
-pub blocks_small : (rounds threads : ℕ) → AreThreads threads (blocks rounds threads)
-blocks_small zero threads = tt
-blocks_small (suc rounds) threads = all_append (λ t. t < threads) (threads_from 0 threads) (blocks rounds threads) (threads_small 0 threads threads (omega arith)) (blocks_small rounds threads)
-
 -- among zeros each is 0
 pub zeros : (n k : ℕ) → slice_index (replicate n 0) k ≡ 0
 zeros zero zero = refl
 zeros zero (suc k) = refl
 zeros (suc n) zero = refl
 zeros (suc n) (suc k) = zeros n k
-
--- so many zeros are so many
-pub length_zeros : (n : ℕ) → length {A = ℕ} (replicate n 0) ≡ n
-length_zeros zero = refl
-length_zeros (suc n) = ap suc (length_zeros n)
 
 -- at the opening each thread stands at a visible instruction or the end
 pub opening_stands : (flat : FlatProgram) → IsWellMarked flat → AllStand flat (opening flat)
@@ -283,7 +260,7 @@ pub exact : (flat : FlatProgram) (rounds : ℕ) → IsWellMarked flat → ((thre
 exact flat rounds well short input =
     let same : failing (straight input 0 (encoding flat rounds) (encoded_first flat)) ≡ breaking (driven flat input 0 (blocks rounds (length flat.threads)) (opening flat) flat.first) =
     driving input flat (blocks rounds (length flat.threads)) 0 0 0 (opening flat) flat.first refl
-    (subst (λ (t : ℕ). AreThreads t (blocks rounds (length flat.threads))) (sym (length_zeros (length flat.threads))) (blocks_small rounds (length flat.threads)))
+    (opening_threads flat rounds)
     (opening_stands flat well) (λ thread. all_at (IsCodeOf (length flat.first)) flat.threads thread well.codes tt) short in (
       λ h. to_break (straight input 0 (encoding flat rounds) (encoded_first flat)) (driven flat input 0 (blocks rounds (length flat.threads)) (opening flat) flat.first) same h,
       λ d. of_break (straight input 0 (encoding flat rounds) (encoded_first flat)) (driven flat input 0 (blocks rounds (length flat.threads)) (opening flat) flat.first) d.0 d.1 same d.2,

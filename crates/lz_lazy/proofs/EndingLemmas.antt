@@ -11,7 +11,7 @@ use Rattle.lz_flat.specs.Programs.{MarkedInstruction, FlatProgram, Statement, St
 use Rattle.lz_flat.specs.Weight.{threads_weight, flat_weight}
 use Rattle.lz_lazy.specs.Encoding.{encoding, encoded_first, sequential}
 use Rattle.std.proofs.lemmas.List.{length-append, length-map}
-use Rattle.lz_lazy.proofs.DrivingLemmas.{length_zeros}
+use Rattle.lz_flat.proofs.RoundsLemmas.{length_zeros}
 use Rattle.lz_lazy.proofs.SizesLemmas.{size}
 use Rattle.lz_flat.proofs.WeightLemmas.{code_length}
 

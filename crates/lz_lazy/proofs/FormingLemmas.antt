@@ -8,7 +8,8 @@ use Rattle.lz_flat.specs.Programs.{Expression, constant, word, element, unary, b
 use Rattle.lz_flat.specs.WellFormed.{IsExpressionOf, IsLocationOf, IsInstructionOf, IsForward, IsCodeOf, IsStatementOf, IsWellMarked, IsWellFormed}
 use Rattle.lz_lazy.specs.Encoding.{whole, saved_place, flag_place, stands_at, runs_next, body, following, head, encoded, encoded_blocks, encoded_first, sequential, clamp, mask_of}
 use Rattle.lz_lazy.proofs.MasksLemmas.{mask_small}
-use Rattle.lz_lazy.proofs.DrivingLemmas.{all_at, blocks_small, length_zeros, AreThreads}
+use Rattle.lz_flat.proofs.RoundsLemmas.{AreThreads, blocks_small, length_zeros}
+use Rattle.lz_lazy.proofs.DrivingLemmas.{all_at}
 
 -- an expression over n words is one over more
 wider : (n m : ℕ) (e : Expression) → n ≤ m → IsExpressionOf n e → IsExpressionOf m e

@@ -2,15 +2,9 @@
 use Rattle.std.proofs.Common.{◌≡◌, ℕ, zero, suc, ◌≤◌, ◌<◌, Bool, true, false, cond, List, length, nat_lt, nat_le, refl, sym, ◌∙◌, ap, arith}
 use Rattle.std.proofs.lemmas.List.{drop_all}
 use Rattle.std.proofs.lemmas.Bool.{lt-ltb}
-use Rattle.lz_flat.specs.FlatRuns.{Ran, went, held, breaks, ended, step_from, step, steps_on, below}
+use Rattle.lz_flat.specs.FlatRuns.{Ran, went, ended, step_from, step, steps_on, below}
 use Rattle.lz_flat.specs.Programs.{MarkedInstruction}
-
--- behind a step come the same steps where each way on has the same
-pub steps_same : (place : ℕ) (memory : List ℕ) (r : Ran) (f g : ℕ → List ℕ → Ran) → ((p : ℕ) (m : List ℕ) → f p m ≡ g p m) → steps_on place memory r f ≡ steps_on place memory r g
-steps_same place memory (went p m) f g h = h p m
-steps_same place memory held f g h = refl
-steps_same place memory (breaks kind line) f g h = refl
-steps_same place memory ended f g h = refl
+use Rattle.lz_flat.proofs.InputsLemmas.{steps_same}
 
 -- a step from the end says that the thread has ended
 step_ended : (input : ℕ → ℕ) (code : List MarkedInstruction) (place : ℕ) (memory : List ℕ) → length code ≤ place → step input code place memory ≡ ended

@@ -9,10 +9,12 @@ use Rattle.lz_flat.specs.FlatRuns.{Ran, went, held, breaks, ended, onward, step_
 use Rattle.lz_flat.specs.Instructions.{did}
 use Rattle.lz_flat.specs.Programs.{MarkedInstruction, FlatProgram, code_of}
 use Rattle.lz_flat.specs.WellFormed.{BeginsVisible}
+use Rattle.lz_flat.proofs.DrivenLemmas.{set_twice}
+use Rattle.lz_flat.proofs.InputsLemmas.{block_same}
 use Rattle.lz_flat.proofs.LandingLemmas.{drop-next, Lands, step_lands}
+use Rattle.lz_flat.proofs.RoundsLemmas.{AreThreads}
 use Rattle.lz_lazy.proofs.OnePassLemmas.{pass, carried, through, behind_carried, below_is_pass}
-use Rattle.lz_lazy.proofs.SimulationLemmas.{set_twice}
-use Rattle.lz_lazy.proofs.DrivingLemmas.{AllStand, AreThreads, stand_after}
+use Rattle.lz_lazy.proofs.DrivingLemmas.{AllStand, stand_after}
 
 -- ---- the first step of a pass
 
@@ -92,13 +94,6 @@ guided flat inputs guesses [] places memory = going places memory
 guided flat inputs guesses (thread ∷ rest) places memory =
     block_behind (below (length (code_of flat thread)) (slice_index guesses 0) (inputs thread) (code_of flat thread) (slice_index places thread) memory)
     (λ place. guided flat inputs (drop 1 guesses) rest (slice_set places thread place))
-
--- behind a block comes the same where each way on is the same
-pub block_same : (r : Ran) (f g : ℕ → List ℕ → Course) → ((place : ℕ) (m : List ℕ) → f place m ≡ g place m) → block_behind r f ≡ block_behind r g
-block_same (went place memory) f g h = h place memory
-block_same held f g h = refl
-block_same (breaks kind line) f g h = refl
-block_same ended f g h = refl
 
 -- some guesses drive a break through these blocks
 abbrev Guided : FlatProgram → (ℕ → ℕ → ℕ) → List ℕ → List ℕ → List ℕ → BreakKind → ℕ → Type 0

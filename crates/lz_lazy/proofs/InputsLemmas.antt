@@ -1,57 +1,14 @@
 -- Inputs of the straight program for guesses and for each thread's own inputs.
-use Rattle.std.proofs.Common.{◌≡◌, ℕ, zero, suc, ◌+◌, ◌-◌, ◌*◌, ◌/◌, ◌≤◌, ◌<◌, Bool, true, false, cond, List, [], ◌∷◌, length, drop, nat_lt, nat_le, refl, ◌∙◌, ap, arith}
+use Rattle.std.proofs.Common.{◌≡◌, ℕ, ◌+◌, ◌-◌, ◌*◌, ◌/◌, ◌≤◌, ◌<◌, Bool, true, false, cond, List, [], ◌∷◌, length, drop, nat_lt, nat_le, refl, ◌∙◌, arith}
 use Rattle.std.specs.Prelude.{slice_index, slice_set, ◌==◌, if◌then◌else◌}
-use Rattle.std.proofs.lemmas.List.{length-drop}
 use Rattle.std.proofs.lemmas.Bool.{lt-ltb, le-ltb, ne_eqb, eq-eqb}
 use Rattle.lz_base.specs.Words.{value_bound}
 use Rattle.lz_base.proofs.WordsLemmas.{choose_word}
-use Rattle.lz_flat.specs.FlatRuns.{Ran, went, behind, onward, step_from, step, below, source, block_length, driven}
-use Rattle.lz_flat.specs.Instructions.{Did, moved, blocked, broke, did}
-use Rattle.lz_flat.specs.Programs.{MarkedInstruction, FlatProgram, code_of}
-use Rattle.lz_lazy.proofs.GuessesLemmas.{steps_same, clamped, clamped_below}
-use Rattle.lz_lazy.proofs.GuessingLemmas.{guided, block_same}
-
--- ---- the same inputs where instructions stand
-
--- behind an instruction comes the same where each way on is the same
-behind_same : (d : Did) (f g : ℕ → List ℕ → Ran) → ((over : ℕ) (m : List ℕ) → f over m ≡ g over m) → behind d f ≡ behind d g
-behind_same (moved over memory) f g h = h over memory
-behind_same blocked f g h = refl
-behind_same (broke kind line) f g h = refl
-
--- a walk reads the inputs of the places in front of it alone
-pub onward_agrees : (a b : ℕ → ℕ) (part : List MarkedInstruction) (l over : ℕ) (memory : List ℕ) → ((k : ℕ) → l ≤ k → k < l + length part → a k ≡ b k) → onward a l part over memory ≡ onward b l part over memory
-unfolding onward
-onward_agrees a b [] l over memory same = refl
-onward_agrees a b (first ∷ rest) l (suc over) memory same = onward_agrees a b rest (suc l) over memory (λ k h t. same k (omega arith) (omega arith))
-onward_agrees a b (first ∷ rest) l zero memory same =
-    rw (same l (omega arith) (omega arith))
-    (ap (cond first.visible (went l memory)) (behind_same (did first.instr (b l) memory) (onward a (suc l) rest) (onward b (suc l) rest)
-    (λ over m. onward_agrees a b rest (suc l) over m (λ k h t. same k (omega arith) (omega arith)))))
-
--- so a step whose instruction stands first
-step_from_agrees : (a b : ℕ → ℕ) (part : List MarkedInstruction) (l : ℕ) (memory : List ℕ) → ((k : ℕ) → l ≤ k → k < l + length part → a k ≡ b k) → step_from a l part memory ≡ step_from b l part memory
-step_from_agrees a b [] l memory same = refl
-step_from_agrees a b (first ∷ rest) l memory same =
-    rw (same l (omega arith) (omega arith)) (behind_same (did first.instr (b l) memory) (onward a (suc l) rest) (onward b (suc l) rest)
-    (λ over m. onward_agrees a b rest (suc l) over m (λ k h t. same k (omega arith) (omega arith))))
-
--- so a step from a place
-pub step_agrees : (a b : ℕ → ℕ) (code : List MarkedInstruction) (place : ℕ) (memory : List ℕ) → ((k : ℕ) → place ≤ k → k < length code → a k ≡ b k) → step a code place memory ≡ step b code place memory
-unfolding step
-step_agrees a b code place memory same =
-    step_from_agrees a b (drop place code) place memory (λ k h t. same k h (let e : length (drop place code) ≡ length code - place = length-drop place code in omega arith))
-
--- so the steps below a guess
-pub below_agrees : (most guess : ℕ) (a b : ℕ → ℕ) (code : List MarkedInstruction) (place : ℕ) (memory : List ℕ) → ((k : ℕ) → k < length code → a k ≡ b k) → below most guess a code place memory ≡ below most guess b code place memory
-unfolding below
-below_agrees zero guess a b code place memory same = refl
-below_agrees (suc most) guess a b code place memory same =
-    rw (step_agrees a b code place memory (λ k h t. same k t))
-    (ap (λ (r : Ran). cond (nat_lt place guess) r (went place memory))
-    (steps_same place memory (step b code place memory) (below most guess a code) (below most guess b code) (λ p m. below_agrees most guess a b code p m same)))
-
--- ---- the inputs
+use Rattle.lz_flat.specs.FlatRuns.{below, source, block_length, driven}
+use Rattle.lz_flat.specs.Programs.{FlatProgram, code_of}
+use Rattle.lz_flat.proofs.InputsLemmas.{below_agrees, block_same, driven_agrees}
+use Rattle.lz_lazy.proofs.GuessesLemmas.{clamped, clamped_below}
+use Rattle.lz_lazy.proofs.GuessingLemmas.{guided}
 
 -- the input of a block at an offset: its guess first, then one of every three for an instruction
 abbrev pub block_input : (ℕ → ℕ) → ℕ → ℕ → ℕ → ℕ
@@ -81,17 +38,6 @@ behind_in : (flat : FlatProgram) (inputs : ℕ → ℕ → ℕ) (guesses : List 
     → inputs_of flat inputs guesses (thread ∷ rest) o i ≡ inputs_of flat inputs (drop 1 guesses) rest (o + block_length (code_of flat thread)) i
 unfolding inputs_of
 behind_in flat inputs guesses thread rest o i h = rw (le-ltb i (o + block_length (code_of flat thread)) h) refl
-
--- the drive reads the inputs from its offset on alone
-pub driven_agrees : (flat : FlatProgram) (a b : ℕ → ℕ) (bs : List ℕ) (o : ℕ) (places memory : List ℕ) → ((i : ℕ) → o ≤ i → a i ≡ b i) → driven flat a o bs places memory ≡ driven flat b o bs places memory
-unfolding driven
-driven_agrees flat a b [] o places memory same = refl
-driven_agrees flat a b (thread ∷ rest) o places memory same =
-    let code = code_of flat thread in
-    rw (same o (omega arith), below_agrees (length code) (b o) (source a o) (source b o) code (slice_index places thread) memory (λ k h. same (o + (12 + 3 * k)) (omega arith)))
-    (block_same (below (length code) (b o) (source b o) code (slice_index places thread) memory)
-    (λ place. driven flat a (o + block_length code) rest (slice_set places thread place)) (λ place. driven flat b (o + block_length code) rest (slice_set places thread place))
-    (λ place m. driven_agrees flat a b rest (o + block_length code) (slice_set places thread place) m (λ i h. same i (omega arith))))
 
 -- the inputs drive what the guesses guide
 pub driven_guided : (flat : FlatProgram) (inputs : ℕ → ℕ → ℕ) (bs guesses : List ℕ) (o : ℕ) (places memory : List ℕ)

@@ -10,7 +10,8 @@ use Rattle.lz_flat.specs.StraightRuns.{Fate, still, stops, fails, fate_behind, s
 use Rattle.lz_flat.specs.WellFormed.{IsInstructionOf, IsForward, IsCodeOf}
 use Rattle.lz_lazy.specs.Encoding.{whole, flag_place, saved_place, runs_next, idle, always, flagged, body, following, encoded}
 use Rattle.lz_lazy.proofs.OnePassLemmas.{pass}
-use Rattle.lz_flat.proofs.WordsLemmas.{value_laid, extended, did_laid, Keeps, did_keeps}
+use Rattle.lz_flat.proofs.DrivenLemmas.{set_twice}
+use Rattle.lz_flat.proofs.WordsLemmas.{value_laid, extended, did_laid, KeepsLength, did_keeps_length}
 use Rattle.lz_flat.proofs.StraightRunLemmas.{straight_passed}
 use Rattle.lz_lazy.proofs.LaidOutLemmas.{laid, at_flag, set_flag, set_saved, ready, ready_next, value_next}
 
@@ -98,7 +99,7 @@ Behind3 input o n thread l part rest guess places over memory =
 
 -- an instruction that is no skip, then what follows
 plain_on : (input : ℕ → ℕ) (o n thread l : ℕ) (part : List MarkedInstruction) (rest : List Statement) (d : Did) (guess : ℕ) (places : List ℕ)
-    → thread < length places → Plain d → Keeps n d
+    → thread < length places → Plain d → KeepsLength n d
     → fate_behind (extended (guess ∷ 1 ∷ places) d) (straight input (suc o) (flagged n (sets (whole (saved_place n thread)) (constant l)) ∷ always (sets (whole (flag_place n)) (runs_next n thread l part)) ∷ rest))
     ≡ did_next d (Behind3 input o n thread l part rest guess places)
 plain_on input o n thread l part rest (moved over memory) guess places lt plain keeps =
@@ -114,7 +115,7 @@ flagged_on : (input : ℕ → ℕ) (o n thread l : ℕ) (i : Instruction) (part 
     ≡ did_next (did i (input o) words) (Behind3 input o n thread l part rest guess places)
 flagged_on input o n thread l i part rest words guess places long lt is plain =
     taken input o (flagged n i) (flagged n (sets (whole (saved_place n thread)) (constant l)) ∷ always (sets (whole (flag_place n)) (runs_next n thread l part)) ∷ rest) (laid words guess 1 places) (flag_is n words guess 1 places long)
-    ∙ rw (did_laid n i (input o) words (guess ∷ 1 ∷ places) long is) (plain_on input o n thread l part rest (did i (input o) words) guess places lt plain (did_keeps n i (input o) words long))
+    ∙ rw (did_laid n i (input o) words (guess ∷ 1 ∷ places) long is) (plain_on input o n thread l part rest (did i (input o) words) guess places lt plain (did_keeps_length n i (input o) words long))
 
 -- the place behind a skip is where it leads
 skip_value : (n l by : ℕ) (test : Expression) (words rest : List ℕ) → length words ≡ n → IsInstructionOf n (skips test by) → 1 ≤ by
@@ -201,14 +202,8 @@ fate_of thread guess places held = stops
 fate_of thread guess places (breaks kind line) = fails
 fate_of thread guess places ended = stops
 
--- of two writes of a place the second stays
-pub set_twice : (places : List ℕ) (thread a b : ℕ) → slice_set (slice_set places thread a) thread b ≡ slice_set places thread b
-set_twice [] thread a b = refl
-set_twice (x ∷ xs) zero a b = refl
-set_twice (x ∷ xs) (suc thread) a b = ap (λ (t : List ℕ). x ∷ t) (set_twice xs thread a b)
-
 -- what follows an instruction that ran
-on_next : (input : ℕ → ℕ) (b n thread l : ℕ) (part : List MarkedInstruction) (guess : ℕ) (places : List ℕ) (d : Did) → Keeps n d
+on_next : (input : ℕ → ℕ) (b n thread l : ℕ) (part : List MarkedInstruction) (guess : ℕ) (places : List ℕ) (d : Did) → KeepsLength n d
     → ((over : ℕ) (m : List ℕ) → length m ≡ n → straight input (b + (12 + 3 * suc l)) (encoded n thread (suc l) part) (laid m guess (ready_next guess (suc l + over) (suc l) part) (slice_set places thread (suc l + over)))
     ≡ fate_of thread guess places (pass guess (source input b) (suc l) part over m))
     → did_next d (Behind3 input (b + (12 + 3 * l)) n thread (suc l) part (encoded n thread (suc l) part) guess (slice_set places thread l))
@@ -235,7 +230,7 @@ at_place input b n thread l first part words guess places true long lt is go lat
 at_place input b n thread l first part words guess places false long lt is go later =
     let lt' : thread < length (slice_set places thread l) = let s = length-set places thread l in omega arith in
     three_on input (b + (12 + 3 * l)) n thread l (suc (length part)) first.instr part (encoded n thread (suc l) part) words guess (slice_set places thread l) long lt' is go
-    ∙ on_next input b n thread l part guess places (did first.instr (source input b l) words) (did_keeps n first.instr (source input b l) words long) later
+    ∙ on_next input b n thread l part guess places (did first.instr (source input b l) words) (did_keeps_length n first.instr (source input b l) words long) later
 
 -- at the end of the code nothing is left to simulate
 simulates_none : (input : ℕ → ℕ) (b n thread l over : ℕ) (words : List ℕ) (guess : ℕ) (places : List ℕ)

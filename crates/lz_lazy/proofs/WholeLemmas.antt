@@ -14,13 +14,13 @@ use Rattle.lz_lazy.proofs.ReadingLemmas.{existence}
 use Rattle.lz_lazy.proofs.SizesLemmas.{listed, length_listed, at_listed, straight_agrees}
 
 -- so many inputs that are words are a list of words
-all_listed : (input : ℕ → ℕ) (i more : ℕ) → ((k : ℕ) → input k < value_bound) → AllByRecursion (λ v. v < value_bound) (listed input i more)
+pub all_listed : (input : ℕ → ℕ) (i more : ℕ) → ((k : ℕ) → input k < value_bound) → AllByRecursion (λ v. v < value_bound) (listed input i more)
 unfolding listed
 all_listed input i zero small = tt
 all_listed input i (suc more) small = (small i, all_listed input (suc i) more small)
 
 -- each of a list of words is a word
-word_at : (inputs : List ℕ) (k : ℕ) → AllByRecursion (λ v. v < value_bound) inputs → slice_index inputs k < value_bound
+pub word_at : (inputs : List ℕ) (k : ℕ) → AllByRecursion (λ v. v < value_bound) inputs → slice_index inputs k < value_bound
 word_at [] zero all = omega arith
 word_at [] (suc k) all = omega arith
 word_at (x ∷ xs) zero all = all.0
