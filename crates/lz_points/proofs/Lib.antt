@@ -1,0 +1,10 @@
+pub mod MemoryLemmas
+pub mod ThroughLemmas
+pub mod BackLemmas
+pub mod AheadLemmas
+pub mod KeepLemmas
+pub mod PassesLemmas
+pub mod OwningLemmas
+pub mod ClaimingLemmas
+pub mod LoopsLemmas
+pub mod MarkingLemmas

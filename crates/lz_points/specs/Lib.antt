@@ -1,0 +1,4 @@
+pub mod Tags
+pub mod Thinning
+pub mod Passes
+pub mod Marks
