@@ -1,9 +1,10 @@
 -- Through code: the new marks lead on from where the old ones stop; clear code rests on its words alone.
-use Rattle.std.proofs.Common.{◌≡◌, ◌⊎◌, ℕ, zero, suc, ◌+◌, ◌-◌, Bool, true, false, cond, List, [], ◌∷◌, length, drop, eqb, refl, sym, ◌∙◌, ap, subst, arith}
+use Rattle.std.proofs.Common.{◌≡◌, ◌⊎◌, ℕ, zero, suc, ◌+◌, ◌-◌, Bool, true, false, cond, List, [], ◌∷◌, ◌++◌, length, drop, eqb, refl, sym, ◌∙◌, ap, subst, arith}
 use Rattle.std.proofs.Common.{inl, inr}
 use Rattle.lz_flat.specs.Programs.{Instruction, sets, takes, assumes, checks, skips, MarkedInstruction}
 use Rattle.lz_flat.specs.Instructions.{Did, moved, blocked, broke, value, did}
 use Rattle.lz_flat.specs.FlatRuns.{Ran, went, held, breaks, ended, behind, onward, step_from}
+use Rattle.lz_flat.specs.Places.{place_behind, onward_places, places_from}
 use Rattle.lz_flat.specs.WellFormed.{IsMarkedSo, IsCodeOf, BeginsVisible}
 use Rattle.lz_flat.proofs.LandingLemmas.{drop-next, drop-none}
 use Rattle.lz_flat.specs.Naming.{InstructionNamesOnly, CodeNamesOnly, AgreeOn, AlikeDid}
@@ -220,3 +221,50 @@ never_held n input l (x ∷ xs) zero m is e = by x.visible refl e (λ over k. ne
     by : (b : Bool) → x.visible ≡ b → cond b (went l m) (behind (did x.instr (input l) m) (onward input (suc l) xs)) ≡ held → ((over : ℕ) (k : List ℕ) → onward input (suc l) xs over k ≡ held → ⊥) → ⊥
     by true v e h = cc
     by false v e h = behind_not_held x.instr (input l) m (onward input (suc l) xs) (subst (IsMarkedSo x.instr) v is.1) h e
+
+-- ---- which places run
+
+-- the places that run on where a step or code leads
+abbrev pub places_then : Ran → (ℕ → List ℕ → List ℕ) → List ℕ
+places_then (went place memory) next = next place memory
+places_then held next = []
+places_then (breaks kind line) next = []
+places_then ended next = []
+
+-- the places that run on from a place of this code to its next visible instruction or its end
+abbrev pub settle_places : (ℕ → ℕ) → List MarkedInstruction → ℕ → List ℕ → List ℕ
+settle_places input code place memory = onward_places input place (drop place code) 0 memory
+
+behind_places : (l : ℕ) (d : Did) (f g : ℕ → List ℕ → List ℕ) (r : ℕ → List ℕ → Ran) (k : ℕ → List ℕ → List ℕ) → ((over : ℕ) (m : List ℕ) → f over m ≡ g over m ++ places_then (r over m) k)
+    → place_behind l d f ≡ place_behind l d g ++ places_then (behind d r) k
+behind_places l (moved over m) f g r k h = ap (λ (xs : List ℕ). l ∷ xs) (h over m)
+behind_places l blocked f g r k h = refl
+behind_places l (broke kind line) f g r k h = refl
+
+-- with the new marks the places are those with the old ones, and then those that run on
+places_through : (P : ℕ → Type 0) (input : ℕ → ℕ) (code part part' : List MarkedInstruction) (l over : ℕ) (m : List ℕ) → drop l code ≡ part' → Thinned P part part'
+    → onward_places input l part' over m ≡ onward_places input l part over m ++ places_then (onward input l part over m) (settle_places input code)
+unfolding onward onward_places
+places_through P input code [] [] l over m e none = ap (λ (xs : List MarkedInstruction). onward_places input (l + over) xs 0 m) (sym (drop-none code l over e))
+places_through P input code [] (y ∷ ys) l over m e x4 = elim x4 [ ]
+places_through P input code (x ∷ xs) [] l over m e x5 = elim x5 [ ]
+places_through P input code (x ∷ xs) (y ∷ ys) l (suc over) m e (kept more) = places_through P input code xs ys (suc l) over m (drop-next code l y ys e) more
+places_through P input code (x ∷ xs) (y ∷ ys) l (suc over) m e (taken names on skip free more) = places_through P input code xs ys (suc l) over m (drop-next code l y ys e) more
+places_through P input code (x ∷ xs) (y ∷ ys) l zero m e (kept {instr = instr} {visible = true} more) = ap (λ (zs : List MarkedInstruction). onward_places input l zs 0 m) (sym e)
+places_through P input code (x ∷ xs) (y ∷ ys) l zero m e (kept {instr = instr} {visible = false} more) =
+    behind_places l (did instr (input l) m) (onward_places input (suc l) ys) (onward_places input (suc l) xs) (onward input (suc l) xs) (settle_places input code)
+        (λ over n. places_through P input code xs ys (suc l) over n (drop-next code l y ys e) more)
+places_through P input code (x ∷ xs) (y ∷ ys) l zero m e (taken {instr = instr} names on skip free more) = ap (λ (zs : List MarkedInstruction). onward_places input l zs 0 m) (sym e)
+
+-- so with a step
+pub step_places : (P : ℕ → Type 0) (input : ℕ → ℕ) (code part part' : List MarkedInstruction) (l : ℕ) (m : List ℕ) → drop l code ≡ part' → Thinned P part part'
+    → places_from input l part' m ≡ places_from input l part m ++ places_then (step_from input l part m) (settle_places input code)
+step_places P input code [] [] l m e none = refl
+step_places P input code [] (y ∷ ys) l m e x4 = elim x4 [ ]
+step_places P input code (x ∷ xs) [] l m e x5 = elim x5 [ ]
+step_places P input code (x ∷ xs) (y ∷ ys) l m e (kept {instr = instr} more) =
+    behind_places l (did instr (input l) m) (onward_places input (suc l) ys) (onward_places input (suc l) xs) (onward input (suc l) xs) (settle_places input code)
+        (λ over n. places_through P input code xs ys (suc l) over n (drop-next code l y ys e) more)
+step_places P input code (x ∷ xs) (y ∷ ys) l m e (taken {instr = instr} names on skip free more) =
+    behind_places l (did instr (input l) m) (onward_places input (suc l) ys) (onward_places input (suc l) xs) (onward input (suc l) xs) (settle_places input code)
+        (λ over n. places_through P input code xs ys (suc l) over n (drop-next code l y ys e) more)
