@@ -141,7 +141,7 @@ steps_turn P flat thinner inputs t h places m wide again = by (step (inputs t) (
       same = λ rest. ap (λ (x : Ran). course_behind x rest (λ place. course flat inputs rest (slice_set places t place))) (e ∙ sym e');
       runs = λ rest. ap₂ (λ (ps : List ℕ) (x : Ran). run_by t ps ++ instructions_behind x (λ place. instructions_run flat inputs rest (slice_set places t place)))
           (sym (places_whole ∙ ap (λ (ps : List ℕ). places_run (inputs t) (code_of flat t) (slice_index places t) m ++ ps) (ap (λ (x : Ran). places_then x (settle_places (inputs t) (code_of thinner t))) e ∙ none_run)
-              ∙ append-nil (places_run (inputs t) (code_of flat t) (slice_index places t) m)))
+          ∙ append-nil (places_run (inputs t) (code_of flat t) (slice_index places t) m)))
           (e ∙ sym e');
     }
 
@@ -193,7 +193,7 @@ steps_turn P flat thinner inputs t h places m wide again = by (step (inputs t) (
                       ∙ ap₂ (λ (k : ℕ) (x : Ran). run_by t old_places ++ (run_by t (places_run (inputs t) (code_of thinner t) k n) ++ instructions_behind x (λ place. instructions_run flat inputs rest (slice_set moved_on t place)))) is then
                       ∙ sym (append_assoc (run_by t old_places) (run_by t next_places) (instructions_behind (step (inputs t) (code_of thinner t) (slice_index places t) m) (λ place. instructions_run flat inputs rest (slice_set moved_on t place))))
                       ∙ ap₂ (λ (front : List (ℕ × ℕ)) (back_run : List (ℕ × ℕ)). front ++ back_run) (sym (map-append (λ (place : ℕ). (t, place)) old_places next_places) ∙ ap (λ (ps : List ℕ). run_by t ps) (sym (joined_places v)))
-                          (runs_behind flat inputs t q places rest (step (inputs t) (code_of thinner t) (slice_index places t) m));
+                      (runs_behind flat inputs t q places rest (step (inputs t) (code_of thinner t) (slice_index places t) m));
                 }
 
 steps_back : (P : ℕ → Type 0) (flat thinner : FlatProgram) (inputs : ℕ → ℕ → ℕ) (t : ℕ) → Thinned P (code_of flat t) (code_of thinner t)

@@ -253,7 +253,7 @@ places_through P input code (x ∷ xs) (y ∷ ys) l (suc over) m e (taken names 
 places_through P input code (x ∷ xs) (y ∷ ys) l zero m e (kept {instr = instr} {visible = true} more) = ap (λ (zs : List MarkedInstruction). onward_places input l zs 0 m) (sym e)
 places_through P input code (x ∷ xs) (y ∷ ys) l zero m e (kept {instr = instr} {visible = false} more) =
     behind_places l (did instr (input l) m) (onward_places input (suc l) ys) (onward_places input (suc l) xs) (onward input (suc l) xs) (settle_places input code)
-        (λ over n. places_through P input code xs ys (suc l) over n (drop-next code l y ys e) more)
+    (λ over n. places_through P input code xs ys (suc l) over n (drop-next code l y ys e) more)
 places_through P input code (x ∷ xs) (y ∷ ys) l zero m e (taken {instr = instr} names on skip free more) = ap (λ (zs : List MarkedInstruction). onward_places input l zs 0 m) (sym e)
 
 -- so with a step
@@ -264,7 +264,7 @@ step_places P input code [] (y ∷ ys) l m e x4 = elim x4 [ ]
 step_places P input code (x ∷ xs) [] l m e x5 = elim x5 [ ]
 step_places P input code (x ∷ xs) (y ∷ ys) l m e (kept {instr = instr} more) =
     behind_places l (did instr (input l) m) (onward_places input (suc l) ys) (onward_places input (suc l) xs) (onward input (suc l) xs) (settle_places input code)
-        (λ over n. places_through P input code xs ys (suc l) over n (drop-next code l y ys e) more)
+    (λ over n. places_through P input code xs ys (suc l) over n (drop-next code l y ys e) more)
 step_places P input code (x ∷ xs) (y ∷ ys) l m e (taken {instr = instr} names on skip free more) =
     behind_places l (did instr (input l) m) (onward_places input (suc l) ys) (onward_places input (suc l) xs) (onward input (suc l) xs) (settle_places input code)
-        (λ over n. places_through P input code xs ys (suc l) over n (drop-next code l y ys e) more)
+    (λ over n. places_through P input code xs ys (suc l) over n (drop-next code l y ys e) more)

@@ -28,7 +28,7 @@ fn restore(tags: &mut [Value])
 /// Takes no memory: while it runs, the upper half of each first value says which threads name the word. It walks over
 /// the words that are named once to claim them and at most twice to test them, and three times over the instructions.
 /// At the greatest weight, 10,000,000, these are at most 76,000 instructions and 2,000,000 words, whatever the number
-/// of threads.
+/// of threads, if a spot with a constant index has the length 1: such a spot weighs the same at every length.
 pub fn mark(flat: &mut Flat)
     requires marked { IsWellMarked (flat_program flat.old) }
     requires threads { length flat.old.threads < shared_tag }
