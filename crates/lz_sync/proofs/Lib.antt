@@ -1,0 +1,17 @@
+pub mod SlotsLemmas
+pub mod TellsLemmas
+pub mod TestsLemmas
+pub mod NamingLemmas
+pub mod FreeLemmas
+pub mod ThreadsLemmas
+pub mod ActingLemmas
+pub mod MutexLemmas
+pub mod AccessLemmas
+pub mod HolderLemmas
+pub mod SignalLemmas
+pub mod WaitingLemmas
+pub mod CreateLemmas
+pub mod JoinLemmas
+pub mod EndLemmas
+pub mod GroupsLemmas
+pub mod OneLemmas

@@ -1,0 +1,13 @@
+ghost use Rattle.lz_sync.specs.Doing.{GroupsDo};
+ghost use Rattle.lz_sync.specs.Standing.{OnePair};
+
+/// The group of every operation is blocked, breaks or goes as its action does; where it goes, the memory then stands
+/// for the new state.
+pub fn groups_do()
+    ensures { GroupsDo }
+{}
+
+/// No memory stands for two pairs of a state and a list of made slots.
+pub fn one_pair()
+    ensures { OnePair }
+{}
