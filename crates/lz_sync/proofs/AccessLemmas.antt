@@ -8,7 +8,7 @@ use Rattle.lz_flat.specs.Programs.{Expression, Location, sets}
 use Rattle.lz_flat.specs.Instructions.{value, put}
 use Rattle.lz_sync.specs.declared.layout.Layout.{Layout}
 use Rattle.lz_sync.specs.Standing.{Role, cell, owner, over, holder, main_life, no_life, life, no_wait, wait, place_of, IsOf, said, Tells, StandsFor}
-use Rattle.lz_sync.specs.Naming.{LocationNamesOnly}
+use Rattle.lz_flat.specs.Naming.{LocationNamesOnly}
 use Rattle.lz_sync.specs.Operations.{spot_of, reads, writes, IsBeside}
 use Rattle.lz_sync.specs.Groups.{spot_word, spot_at}
 use Rattle.lz_sync.specs.Doing.{goes, Does}

@@ -12,7 +12,7 @@ use Rattle.lz_flat.specs.Instructions as flat
 use Rattle.lz_sync.specs.declared.layout.Layout.{Layout}
 use Rattle.lz_sync.specs.Slots.{thread_of, slot_of}
 use Rattle.lz_sync.specs.Standing.{Role, place_of, IsOf, thread_word, IsMadeIn, Fits, StandsFor}
-use Rattle.lz_sync.specs.Running.{runs}
+use Rattle.lz_flat.specs.Running.{runs}
 use Rattle.lz_sync.specs.Groups.{live, free, both}
 use Rattle.lz_sync.specs.Doing.{KeepsOthers, DoesAs, goes, waits, breaks}
 use Rattle.lz_sync.proofs.SlotsLemmas.{same_slot, same_test}

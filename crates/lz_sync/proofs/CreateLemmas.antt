@@ -11,7 +11,7 @@ use Rattle.lz_flat.specs.Instructions.{value}
 use Rattle.lz_sync.specs.declared.layout.Layout.{Layout}
 use Rattle.lz_sync.specs.Slots.{place_in, thread_of, RisesTo}
 use Rattle.lz_sync.specs.Standing.{Role, cell, owner, over, holder, main_life, no_life, life, no_wait, wait, place_of, IsOf, life_in, thread_word, number_word, said, IsMadeIn, Fits, Tells, StandsFor}
-use Rattle.lz_sync.specs.Running.{runs}
+use Rattle.lz_flat.specs.Running.{runs}
 use Rattle.lz_sync.specs.Operations.{creates}
 use Rattle.lz_sync.specs.Groups.{free, role_at}
 use Rattle.lz_sync.specs.Doing.{DoesAs, goes, waits, Does}

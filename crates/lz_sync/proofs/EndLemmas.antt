@@ -12,7 +12,7 @@ use Rattle.lz_flat.specs.Instructions.{value}
 use Rattle.lz_sync.specs.declared.layout.Layout.{Layout}
 use Rattle.lz_sync.specs.Slots.{thread_of}
 use Rattle.lz_sync.specs.Standing.{Role, cell, owner, over, holder, main_life, no_life, life, no_wait, wait, place_of, IsOf, life_in, thread_word, number_word, said, IsMadeIn, Fits, Tells, StandsFor}
-use Rattle.lz_sync.specs.Running.{runs}
+use Rattle.lz_flat.specs.Running.{runs}
 use Rattle.lz_sync.specs.Operations.{ends}
 use Rattle.lz_sync.specs.Groups.{role_at, role_word, life_role, live, equal, lets_go, over_set, group}
 use Rattle.lz_sync.specs.Doing.{KeepsOthers, DoesAs, goes, waits, Does}

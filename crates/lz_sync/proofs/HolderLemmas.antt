@@ -8,7 +8,7 @@ use Rattle.lz_flat.specs.Instructions.{value}
 use Rattle.lz_sync.specs.declared.layout.Layout.{Layout}
 use Rattle.lz_sync.specs.Slots.{thread_of}
 use Rattle.lz_sync.specs.Standing.{Role, cell, owner, over, holder, main_life, no_life, life, no_wait, wait, place_of, IsOf, thread_word, said, IsMadeIn, Tells, StandsFor}
-use Rattle.lz_sync.specs.Running.{runs}
+use Rattle.lz_flat.specs.Running.{runs}
 use Rattle.lz_sync.specs.Operations.{holds_on, holds_off}
 use Rattle.lz_sync.specs.Groups.{role_word, role_at, equal, lets_go}
 use Rattle.lz_sync.specs.Doing.{DoesAs, goes, Does}

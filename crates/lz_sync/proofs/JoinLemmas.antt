@@ -17,7 +17,7 @@ use Rattle.lz_flat.specs.Instructions as flat
 use Rattle.lz_sync.specs.declared.layout.Layout.{Layout}
 use Rattle.lz_sync.specs.Slots.{thread_of}
 use Rattle.lz_sync.specs.Standing.{Role, cell, owner, over, holder, main_life, no_life, life, no_wait, wait, place_of, lives_from, IsOf, life_in, number_word, said, IsMadeIn, Tells, StandsFor}
-use Rattle.lz_sync.specs.Running.{runs}
+use Rattle.lz_flat.specs.Running.{runs}
 use Rattle.lz_sync.specs.Operations.{joins}
 use Rattle.lz_sync.specs.Groups.{free, both, equal, joined_word, joined_at}
 use Rattle.lz_sync.specs.Doing.{DoesAs, goes, breaks, Does}

@@ -1,7 +1,6 @@
 pub mod SlotsLemmas
 pub mod TellsLemmas
 pub mod TestsLemmas
-pub mod NamingLemmas
 pub mod FreeLemmas
 pub mod ThreadsLemmas
 pub mod ActingLemmas
@@ -14,4 +13,9 @@ pub mod CreateLemmas
 pub mod JoinLemmas
 pub mod EndLemmas
 pub mod GroupsLemmas
+pub mod ExpandingLemmas
+pub mod WeighingLemmas
+pub mod FormingLemmas
+pub mod GivingLemmas
 pub mod OneLemmas
+pub mod ReachingLemmas

@@ -11,7 +11,7 @@ use Rattle.lz_flat.specs.Instructions.{value}
 use Rattle.lz_sync.specs.declared.layout.Layout.{Layout}
 use Rattle.lz_sync.specs.Slots.{thread_of, slot_of}
 use Rattle.lz_sync.specs.Standing.{Role, cell, owner, over, holder, main_life, no_life, life, no_wait, wait, place_of, IsOf, thread_word, said, IsMadeIn, Fits, Tells, StandsFor}
-use Rattle.lz_sync.specs.Running.{runs}
+use Rattle.lz_flat.specs.Running.{runs}
 use Rattle.lz_sync.specs.Operations.{spot_of, resets, locks, unlocks, IsSpot, IsIndexed}
 use Rattle.lz_sync.specs.Groups.{equal, no, spot_word, spot_at}
 use Rattle.lz_sync.specs.Doing.{DoesAs, goes, breaks, Does}

@@ -15,7 +15,7 @@ use Rattle.lz_flat.specs.Instructions.{value, put}
 use Rattle.lz_sync.specs.declared.layout.Layout.{Layout}
 use Rattle.lz_sync.specs.Slots.{thread_of, slot_of}
 use Rattle.lz_sync.specs.Standing.{Role, cell, owner, over, holder, main_life, no_life, life, no_wait, wait, place_of, waits_from, number_word, said, Fits, Tells, StandsFor}
-use Rattle.lz_sync.specs.Running.{runs}
+use Rattle.lz_flat.specs.Running.{runs}
 use Rattle.lz_sync.specs.Operations.{signals, spot_of, woken_of, IsIndexed}
 use Rattle.lz_sync.specs.Groups.{role_word, free, both, equal, no, spot_number, some_wait, woken_word}
 use Rattle.lz_sync.specs.Doing.{DoesAs, goes, waits, Does}
@@ -119,7 +119,7 @@ any_is state made c (suc slots) e = by (λ h. any_is state made c slots h) (any_
         here false g = absurd (let z : is_now fresh.waits c ≡ true = subst (λ (x : ThreadState). is_now x.waits c ≡ true) (not_made state (thread_of made slots) g) waits_here in cc)
 
 -- the slot of a made thread is one of the layout
-slot_lt : (layout : Layout) (state : State) (made : List ℕ) (n : ℕ) → Fits layout state made → 0 < layout.threads → n < length state.threads → slot_of made n < layout.threads
+pub slot_lt : (layout : Layout) (state : State) (made : List ℕ) (n : ℕ) → Fits layout state made → 0 < layout.threads → n < length state.threads → slot_of made n < layout.threads
 slot_lt layout state made zero fits pos lt = pos
 slot_lt layout state made (suc n) fits pos lt = (within layout.threads 0 made n fits.rises (let z = fits.threads in omega (arith, z, lt))).1
 

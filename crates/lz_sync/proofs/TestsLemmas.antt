@@ -6,7 +6,7 @@ use Rattle.lz_base.specs.Words.{truth, is_true}
 use Rattle.lz_base.specs.declared.word.BreakKind.{BreakKind}
 use Rattle.lz_flat.specs.Programs.{Expression, constant, word, element, Location, Instruction, sets, assumes, checks}
 use Rattle.lz_flat.specs.Instructions.{value, put, moved, blocked, broke, did}
-use Rattle.lz_sync.specs.Running.{runs}
+use Rattle.lz_flat.specs.Running.{runs}
 use Rattle.lz_sync.specs.Operations.{spot_of, IsIndexed}
 use Rattle.lz_sync.specs.Groups.{fixed, spot_word, spot_at, both, either, equal, no}
 

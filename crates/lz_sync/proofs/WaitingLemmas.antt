@@ -16,14 +16,14 @@ use Rattle.lz_base.specs.declared.word.IntType.TheVariants.{Unsigned}
 use Rattle.lz_sync.specs.declared.layout.Layout.{Layout}
 use Rattle.lz_sync.specs.Slots.{thread_of}
 use Rattle.lz_sync.specs.Standing.{Role, cell, owner, over, holder, main_life, no_life, life, no_wait, wait, place_of, IsOf, life_word, life_in, number_word, said, IsMadeIn, Tells, StandsFor}
-use Rattle.lz_sync.specs.Running.{runs}
-use Rattle.lz_sync.specs.Naming.{NamesOnly, AgreeOn}
+use Rattle.lz_flat.specs.Running.{runs}
+use Rattle.lz_flat.specs.Naming.{NamesOnly, AgreeOn}
 use Rattle.lz_sync.specs.Operations.{spot_of, parks, wakes, broadcasts, IsBeside}
 use Rattle.lz_sync.specs.Groups.{role_word, role_at, both, equal, no, spot_word, spot_at, spot_number, none_waits}
 use Rattle.lz_sync.specs.Doing.{KeepsOthers, DoesAs, goes, breaks, Does}
 use Rattle.lz_sync.proofs.TellsLemmas.{but, set_tells}
 use Rattle.lz_sync.proofs.TestsLemmas.{value_both, value_no, value_equal, value_constant, value_word, put_spot, put_fixed, runs_check, runs_set, runs_none}
-use Rattle.lz_sync.proofs.NamingLemmas.{value_agrees}
+use Rattle.lz_flat.proofs.NamingLemmas.{value_agrees}
 use Rattle.lz_sync.proofs.FreeLemmas.{told}
 use Rattle.lz_sync.proofs.ThreadsLemmas.{set_wait}
 use Rattle.lz_sync.proofs.ActingLemmas.{frees, frees_where, runs_last, length_others, kept_too, kept_all}

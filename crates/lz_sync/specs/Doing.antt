@@ -9,7 +9,7 @@ use Rattle.lz_model.specs.Store.{State, Acted, went, blocked, broke, act}
 use Rattle.lz_sync.specs.declared.layout.Layout.{Layout}
 use Rattle.lz_sync.specs.Slots.{thread_of}
 use Rattle.lz_sync.specs.Standing.{words_of, StandsFor}
-use Rattle.lz_sync.specs.Running.{runs}
+use Rattle.lz_flat.specs.Running.{runs}
 use Rattle.lz_sync.specs.Operations.{Operation, IsExpandable, IsReady, action_in, made_after, with_read}
 use Rattle.lz_sync.specs.Groups.{group}
 

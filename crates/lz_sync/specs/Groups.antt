@@ -1,9 +1,10 @@
 -- Inner: the instructions of each operation. The first is an assumption: the thread runs, the process is not over, no
 -- other thread is the holder of the atomic section, and the action is not blocked.
-use Rattle.std.specs.Prelude.{ℕ, zero, suc, ◌+◌, ◌==◌, Bool, true, false, List, [], ◌∷◌, if◌then◌else◌}
+use Rattle.std.specs.Prelude.{ℕ, zero, suc, ◌+◌, ◌==◌, Bool, true, false, List, [], ◌∷◌, ◌++◌, if◌then◌else◌}
 use Rattle.lz_base.specs.declared.operator.Unary.TheVariants as unaries
 use Rattle.lz_base.specs.declared.operator.Binary.TheVariants.{Add, Eq, Ne, Both, Either}
 use Rattle.lz_base.specs.declared.word.IntType.TheVariants.{Unsigned}
+use Rattle.lz_base.specs.declared.word.BreakKind.{BreakKind}
 use Rattle.lz_base.specs.declared.word.BreakKind.TheVariants as kinds
 use Rattle.lz_flat.specs.Programs.{Expression, constant, word, element, unary, binary, choose, Location, Instruction, sets, assumes, checks}
 use Rattle.lz_sync.specs.declared.layout.Layout.{Layout}
@@ -70,16 +71,23 @@ some_wait layout cond zero = constant 0
 some_wait layout cond (suc zero) = equal (role_word layout (wait 0)) cond
 some_wait layout cond (suc (suc slots)) = either (some_wait layout cond (suc slots)) (equal (role_word layout (wait (suc slots))) cond)
 
+-- the wait of a slot once the condition is broadcast
+abbrev pub chosen_wait : Layout → Expression → ℕ → Expression
+chosen_wait layout cond slot = choose (equal (role_word layout (wait slot)) cond) (constant 0) (role_word layout (wait slot))
+
 -- no slot of these waits there any more
 abbrev pub none_waits : Layout → Expression → ℕ → ℕ → List Instruction
 none_waits layout cond slot zero = []
 none_waits layout cond slot (suc more) =
-    sets (role_at layout (wait slot)) (choose (equal (role_word layout (wait slot)) cond) (constant 0) (role_word layout (wait slot)))
-    ∷ none_waits layout cond (suc slot) more
+    sets (role_at layout (wait slot)) (chosen_wait layout cond slot) ∷ none_waits layout cond (suc slot) more
+
+-- the holder once a thread lets the atomic section go
+abbrev pub chosen_holder : Layout → ℕ → Expression
+chosen_holder layout slot = choose (equal (role_word layout holder) (constant (suc slot))) (constant 0) (role_word layout holder)
 
 -- the thread that is the holder is it no more
 abbrev pub lets_go : Layout → ℕ → Instruction
-lets_go layout slot = sets (role_at layout holder) (choose (equal (role_word layout holder) (constant (suc slot))) (constant 0) (role_word layout holder))
+lets_go layout slot = sets (role_at layout holder) (chosen_holder layout slot)
 
 -- ---- the group of an operation
 
@@ -99,6 +107,15 @@ joined_word layout slot = element (lives_from layout) layout.threads slot
 abbrev pub joined_at : Layout → Expression → Location
 joined_at layout slot = record { first = lives_from layout; len = layout.threads; index = slot }
 
+-- the woken slot waits there, or no slot does where nobody is woken
+abbrev pub signal_test : Layout → Location → Expression → Expression
+signal_test layout c w = choose w (equal (woken_word layout w) (spot_number c)) (no (some_wait layout (spot_number c) layout.threads))
+
+-- a mutex is given up after a check that the thread owns it
+abbrev pub given_up : Layout → ℕ → Location → BreakKind → List Instruction
+given_up layout t m kind =
+    assumes (free layout t) ∷ checks (equal (spot_word layout.cells m) (constant (suc t))) kind 0 ∷ sets (spot_at layout.cells m) (constant 0) ∷ []
+
 -- at the end of the whole process, this is over
 abbrev pub over_set : Layout → Bool → List Instruction
 over_set layout false = []
@@ -111,16 +128,12 @@ group layout t (reads from to) = assumes (free layout t) ∷ sets to (spot_word 
 group layout t (writes to of) = assumes (free layout t) ∷ sets (spot_at 0 to) of ∷ []
 group layout t (resets m) = assumes (free layout t) ∷ sets (spot_at layout.cells m) (constant 0) ∷ []
 group layout t (locks m) = assumes (both (free layout t) (no (spot_word layout.cells m))) ∷ sets (spot_at layout.cells m) (constant (suc t)) ∷ []
-group layout t (unlocks m) =
-    assumes (free layout t) ∷ checks (equal (spot_word layout.cells m) (constant (suc t))) kinds.Unlock 0 ∷ sets (spot_at layout.cells m) (constant 0) ∷ []
-group layout t (parks c m) =
-    assumes (free layout t) ∷ checks (equal (spot_word layout.cells m) (constant (suc t))) kinds.Wait 0 ∷ sets (spot_at layout.cells m) (constant 0)
-    ∷ sets (role_at layout (wait t)) (spot_number c) ∷ []
+group layout t (unlocks m) = given_up layout t m kinds.Unlock
+group layout t (parks c m) = given_up layout t m kinds.Wait ++ sets (role_at layout (wait t)) (spot_number c) ∷ []
 group layout t (wakes c m) =
     assumes (both (free layout t) (both (no (role_word layout (wait t))) (no (spot_word layout.cells m)))) ∷ sets (spot_at layout.cells m) (constant (suc t)) ∷ []
 group layout t (signals c w) =
-    assumes (both (free layout t) (choose w (equal (woken_word layout w) (spot_number c)) (no (some_wait layout (spot_number c) layout.threads))))
-    ∷ sets (woken_at layout w) (constant 0) ∷ []
+    assumes (both (free layout t) (signal_test layout c w)) ∷ sets (woken_at layout w) (constant 0) ∷ []
 group layout t (broadcasts c) = assumes (free layout t) ∷ none_waits layout (spot_number c) 0 layout.threads
 group layout t (creates slot start argument) = assumes (free layout t) ∷ sets (role_at layout (life slot)) (constant 1) ∷ []
 group layout t (joins slot) =

@@ -1,7 +1,8 @@
 pub mod Slots
 pub mod Standing
-pub mod Running
-pub mod Naming
 pub mod Operations
 pub mod Groups
 pub mod Doing
+pub mod Forming
+pub mod Weights
+pub mod Reaching

@@ -9,7 +9,7 @@ use Rattle.lz_sync.specs.declared.operation.SyncOp.{SyncOp}
 use Rattle.lz_sync.specs.declared.operation.SyncOp.TheVariants as ops
 use Rattle.lz_sync.specs.Slots.{thread_of, RisesTo}
 use Rattle.lz_sync.specs.Standing.{words_of}
-use Rattle.lz_sync.specs.Naming.{NamesOnly, LocationNamesOnly}
+use Rattle.lz_flat.specs.Naming.{NamesOnly, LocationNamesOnly}
 
 -- An action with expressions in the place of numbers. A cell, a mutex or a condition counts from 0 among its kind; a
 -- thread goes by its slot; a signal's number is 0 for nobody, else one more than the woken slot.
