@@ -1,0 +1,2 @@
+//! Inlining and unwinding: the code of each thread as one tree, without a call and without a loop.
+#![tactic(auto)]
