@@ -1,0 +1,2 @@
+mod NumberedLemmas
+pub mod GeneratedWitnesses
