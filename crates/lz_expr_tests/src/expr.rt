@@ -4,6 +4,7 @@ use crate::letters::tokens_of;
 use lz_expr::{ParseError, parse_expression};
 use lz_tree::{Binary, Expr, TypeName, Unary};
 use std::alloc::Global;
+use std::process::Abort;
 use std::test::*;
 
 /// The expression with each node in parentheses.
@@ -127,110 +128,128 @@ fn answer(alloc: Global, letters: &str, height: u32, assign: bool) -> Result<Str
     }
 }
 
-#[test]
-fn expressions(rt: HostRuntime) -> Result<(), Fail> {
-    for (letters, wanted, why) in [
-        ("1", "(1) 1", "a constant"),
-        ("O;", "(O) 1", "what cannot go on ends it"),
-        (
-            "a-b-c",
-            "(((o)-(o))-(o)) 5",
-            "binary operators group to the left",
-        ),
-        ("a+b*c", "((o)+((o)*(o))) 5", "a tighter operator first"),
-        ("a|b&c", "((o)|((o)&(o))) 5", "`&&` is tighter than `||`"),
-        ("(a+b)*c", "((((o)+(o)))*(o)) 7", "parentheses are nodes"),
-        (
-            "(N)a+b",
-            "((N(o))+(o)) 6",
-            "a cast takes a unary expression",
-        ),
-        ("(ULLN)-a", "(ULLN(-(o))) 8", "a type of four words"),
-        ("(V*)1", "(V*(1)) 5", "`void *`"),
-        ("(V)1", "no 2 3", "`void` alone is no type of a cast"),
-        (
-            "a?b:c?d:e",
-            "((o)?(o):((o)?(o):(o))) 9",
-            "a choice groups to the right",
-        ),
-        (
-            "a=b@c",
-            "(o=(o@(o))) 5",
-            "an assignment groups to the right",
-        ),
-        ("a[i]=1", "(o[(o)]=(1)) 6", "an element is assigned"),
-        ("a+b=c", "((o)+(o)) 3", "only a target is assigned"),
-        ("#a", "(#o) 2", "a step before"),
-        ("a[1]_", "(o[(1)]_) 5", "a step behind"),
-        ("a##", "(o#) 2", "a step has no step behind it"),
-        ("!-a", "(!(-(o))) 3", "unary operators one behind the other"),
-        ("f()", "(f) 3", "no argument"),
-        ("f(a,b=1)", "(f(o)(o=(1))) 8", "arguments are assignments"),
-        ("f(a,)", "no 4 5", "no argument behind a comma"),
-        ("f(", "no 2 3", "the end is refused on the last line"),
-        ("$a[1]", "($o[(1)]) 5", "an address"),
-        ("a+", "no 2 3", "an operand is missing"),
-        ("a+;", "no 2 3", "no operand"),
-        (";", "no 0 1", "nothing begins so"),
-        ("", "no 0 1", "nothing at all"),
-    ] {
+/// Each row's letters, what is answered for them at the height 200, and why.
+fn agree<R: Abort + AllocGlobal>(
+    rt: &R,
+    rows: &[(&str, &str, &str)],
+    assign: bool,
+) -> Result<(), Fail> {
+    for (letters, wanted, why) in rows {
         assert_eq!(rt;
-            answer(rt.alloc(), letters, 200, true)?.as_str(),
-            wanted,
+            answer(rt.alloc(), letters, 200, assign)?.as_str(),
+            *wanted,
             "{letters}: {why}"
         );
     }
     Ok(())
+}
+
+/// The same with a height for each row.
+fn agree_at<R: Abort + AllocGlobal>(rt: &R, rows: &[(&str, u32, &str, &str)]) -> Result<(), Fail> {
+    for (letters, height, wanted, why) in rows {
+        assert_eq!(rt;
+            answer(rt.alloc(), letters, *height, true)?.as_str(),
+            *wanted,
+            "{letters}: {why}"
+        );
+    }
+    Ok(())
+}
+
+#[test]
+fn expressions(rt: HostRuntime) -> Result<(), Fail> {
+    agree(
+        &rt,
+        &[
+            ("1", "(1) 1", "a constant"),
+            ("O;", "(O) 1", "what cannot go on ends it"),
+            (
+                "a-b-c",
+                "(((o)-(o))-(o)) 5",
+                "binary operators group to the left",
+            ),
+            ("a+b*c", "((o)+((o)*(o))) 5", "a tighter operator first"),
+            ("a|b&c", "((o)|((o)&(o))) 5", "`&&` is tighter than `||`"),
+            ("(a+b)*c", "((((o)+(o)))*(o)) 7", "parentheses are nodes"),
+            (
+                "(N)a+b",
+                "((N(o))+(o)) 6",
+                "a cast takes a unary expression",
+            ),
+            ("(ULLN)-a", "(ULLN(-(o))) 8", "a type of four words"),
+            ("(V*)1", "(V*(1)) 5", "`void *`"),
+            ("(V)1", "no 2 3", "`void` alone is no type of a cast"),
+            (
+                "a?b:c?d:e",
+                "((o)?(o):((o)?(o):(o))) 9",
+                "a choice groups to the right",
+            ),
+            (
+                "a=b@c",
+                "(o=(o@(o))) 5",
+                "an assignment groups to the right",
+            ),
+            ("a[i]=1", "(o[(o)]=(1)) 6", "an element is assigned"),
+            ("a+b=c", "((o)+(o)) 3", "only a target is assigned"),
+            ("#a", "(#o) 2", "a step before"),
+            ("a[1]_", "(o[(1)]_) 5", "a step behind"),
+            ("a##", "(o#) 2", "a step has no step behind it"),
+            ("!-a", "(!(-(o))) 3", "unary operators one behind the other"),
+            ("f()", "(f) 3", "no argument"),
+            ("f(a,b=1)", "(f(o)(o=(1))) 8", "arguments are assignments"),
+            ("f(a,)", "no 4 5", "no argument behind a comma"),
+            ("f(", "no 2 3", "the end is refused on the last line"),
+            ("$a[1]", "($o[(1)]) 5", "an address"),
+            ("a+", "no 2 3", "an operand is missing"),
+            ("a+;", "no 2 3", "no operand"),
+            (";", "no 0 1", "nothing begins so"),
+            ("", "no 0 1", "nothing at all"),
+        ],
+        true,
+    )
 }
 
 #[test]
 fn choices_hold_no_assignment(rt: HostRuntime) -> Result<(), Fail> {
-    for (letters, wanted, why) in [
-        ("a=1", "(o) 1", "it ends before an assignment"),
-        (
-            "a?b=1:c",
-            "((o)?(o=(1)):(o)) 7",
-            "but between its marks one stands",
-        ),
-    ] {
-        assert_eq!(rt;
-            answer(rt.alloc(), letters, 200, false)?.as_str(),
-            wanted,
-            "{letters}: {why}"
-        );
-    }
-    Ok(())
+    agree(
+        &rt,
+        &[
+            ("a=1", "(o) 1", "it ends before an assignment"),
+            (
+                "a?b=1:c",
+                "((o)?(o=(1)):(o)) 7",
+                "but between its marks one stands",
+            ),
+        ],
+        false,
+    )
 }
 
 #[test]
 fn heights(rt: HostRuntime) -> Result<(), Fail> {
-    for (letters, height, wanted, why) in [
-        ("(a)", 1, "no 0 1", "no room for parentheses"),
-        ("(a)", 2, "((o)) 3", "room for them"),
-        ("a+b", 1, "(o) 1", "no operator where there is no room"),
-        ("a+b+c", 2, "((o)+(o)) 3", "one operator"),
-        ("a+b+c", 3, "(((o)+(o))+(o)) 5", "two of them"),
-        (
-            "a+(b)",
-            2,
-            "no 2 3",
-            "the operand has room for a name alone",
-        ),
-        ("a[1]", 1, "(o) 1", "no room for an index"),
-        ("a[1]", 2, "(o[(1)]) 4", "room for one"),
-        ("f()", 1, "(f) 3", "a call without arguments"),
-        ("f(1)", 1, "no 2 3", "no room for an argument"),
-        ("a=1", 1, "(o) 1", "no room for a value"),
-        ("a?b:c", 1, "(o) 1", "no room for a choice"),
-        ("$a", 1, "($o) 2", "an address has no part"),
-        ("!a", 1, "no 0 1", "no room for an operand"),
-        ("(N)a", 1, "no 0 1", "nor for that of a cast"),
-    ] {
-        assert_eq!(rt;
-            answer(rt.alloc(), letters, height, true)?.as_str(),
-            wanted,
-            "{letters}: {why}"
-        );
-    }
-    Ok(())
+    agree_at(
+        &rt,
+        &[
+            ("(a)", 1, "no 0 1", "no room for parentheses"),
+            ("(a)", 2, "((o)) 3", "room for them"),
+            ("a+b", 1, "(o) 1", "no operator where there is no room"),
+            ("a+b+c", 2, "((o)+(o)) 3", "one operator"),
+            ("a+b+c", 3, "(((o)+(o))+(o)) 5", "two of them"),
+            (
+                "a+(b)",
+                2,
+                "no 2 3",
+                "the operand has room for a name alone",
+            ),
+            ("a[1]", 1, "(o) 1", "no room for an index"),
+            ("a[1]", 2, "(o[(1)]) 4", "room for one"),
+            ("f()", 1, "(f) 3", "a call without arguments"),
+            ("f(1)", 1, "no 2 3", "no room for an argument"),
+            ("a=1", 1, "(o) 1", "no room for a value"),
+            ("a?b:c", 1, "(o) 1", "no room for a choice"),
+            ("$a", 1, "($o) 2", "an address has no part"),
+            ("!a", 1, "no 0 1", "no room for an operand"),
+            ("(N)a", 1, "no 0 1", "nor for that of a cast"),
+        ],
+    )
 }
