@@ -1,2 +1,4 @@
 pub mod CallsLemmas
 pub mod MovedLemmas
+pub mod PiecesLemmas
+pub mod IntoLemmas
