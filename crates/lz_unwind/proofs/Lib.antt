@@ -2,3 +2,5 @@ pub mod CallsLemmas
 pub mod MovedLemmas
 pub mod PiecesLemmas
 pub mod IntoLemmas
+pub mod TurnsLemmas
+pub mod GrowsLemmas
