@@ -268,7 +268,7 @@ module _ {Back : Type 0} (w : Setting) (calls : Calls) (env : Callees) (o : ℕ)
   printed_known line e values kind x k m g f a b h = absurd g
 
   -- an expression with no call whose value is not used
-  dropped : (e : ScopedExpression) (m : ℕ) {s t : Locals} → IsScoped w e → Near o w.locals m s t → has_call e ≡ false →
+  pub dropped : (e : ScopedExpression) (m : ℕ) {s t : Locals} → IsScoped w e → Near o w.locals m s t → has_call e ≡ false →
       Corresponds Back (expression_trace calls e) s (bounded_trace (evals (shift o e) None)) t (λ v s' u t'. (u ≡ through) × Chain o w.locals m m t s' t')
   dropped e m f n c = corresponds_quiet_tail (shift_corresponds w o m calls e c f n) (λ v s' u t' g. (through, t', quiet_value, (refl, chain_steps (chain_start n) g.1)))
 

@@ -4,3 +4,4 @@ pub mod PiecesLemmas
 pub mod IntoLemmas
 pub mod TurnsLemmas
 pub mod GrowsLemmas
+pub mod StatementsLemmas

@@ -297,7 +297,7 @@ pub assumes_correspond : {Back : Type 0} (line v : ℕ) {s t : Locals} → Corre
 assumes_correspond line zero = corresponds_then {Mid = λ a s' b t'. ⊤} (corresponds_act tt) (λ a s' b t' h. corresponds_halts)
 assumes_correspond line (suc v) = corresponds_act (refl, record { left = refl; right = refl; holds_ = tt })
 
-near_handle : {o l m : ℕ} {s t : Locals} (i v : ℕ) → Near o l m s t → Near o l m (set_handle i v s) (set_handle i v t)
+pub near_handle : {o l m : ℕ} {s t : Locals} (i v : ℕ) → Near o l m s t → Near o l m (set_handle i v s) (set_handle i v t)
 near_handle i v n = record { here = n.here; result = n.result; unused = n.unused; handles = ap (put i v) n.handles; room = n.room }
 
 pub known_same : {Back : Type 0} {o l m : ℕ} (line : ℕ) (name : KnownName) (os vs : List ℕ) {s t : Locals} → Near o l m s t →
