@@ -5,3 +5,4 @@ pub mod IntoLemmas
 pub mod TurnsLemmas
 pub mod GrowsLemmas
 pub mod StatementsLemmas
+pub mod ThreadsLemmas

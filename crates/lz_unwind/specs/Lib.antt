@@ -2,3 +2,4 @@ pub mod Moved
 pub mod Pieces
 pub mod Relation
 pub mod Translation
+pub mod Inlining
