@@ -13,6 +13,7 @@ pub mod CreateLemmas
 pub mod JoinLemmas
 pub mod EndLemmas
 pub mod GroupsLemmas
+pub mod GroupsWitnesses
 pub mod ExpandingLemmas
 pub mod WeighingLemmas
 pub mod FormingLemmas

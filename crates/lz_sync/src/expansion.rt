@@ -57,6 +57,7 @@ pub fn expand(alloc: Global, layout: &Layout, thread: u32, op: &SyncOp) -> Resul
     requires thread { thread < layout.now.threads }
     requires fits { IsExpandable layout.now (operation op.now) }
 
+    ensures group { IfOk result (λ made. map instruction made ≡ group layout.now thread (operation op.now)) }
     ensures does { IfOk result (λ made. DoesThroughout layout.now thread (operation op.now) (map instruction made)) }
     ensures begins { IfOk result (λ made. BeginsWithTest (map instruction made)) }
     ensures names { IfOk result (λ made. NamesNoOthers layout.now (operation op.now) (map instruction made)) }

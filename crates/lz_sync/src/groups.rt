@@ -346,8 +346,8 @@ pub fn end_group(alloc: Global, layout: &Layout, thread: u32, whole: bool) -> Re
     let to = fixed_to(life_place(layout, thread));
     let mut group = write_after(alloc, live, to, constant_expr(2))?;
     let to = fixed_to(holder_place(layout));
-    let value = let_go_expr(alloc, layout, thread)?;
-    group.push(Instr::Set { to, value })?;
+    let holder = let_go_expr(alloc, layout, thread)?;
+    group.push(Instr::Set { to, value: holder })?;
     if whole {
         let to = fixed_to(over_place(layout));
         group.push(Instr::Set {

@@ -10,6 +10,9 @@ use Rattle.lz_sync.proofs.GivingLemmas.{if_group}
 use Rattle.lz_sync.proofs.expansion.expand.Goals as goal
 
 -- src/expansion.rt
+pub returns-clause-group : goal.returns-clause-group
+returns-clause-group c = c.group_of.ensures
+
 pub returns-clause-does : goal.returns-clause-does
 returns-clause-does c = if_group (DoesThroughout c.args.layout.now c.args.thread (operation c.args.op.now)) c.args.layout.now c.args.thread (operation c.args.op.now) c.group_of.result
     (groups_do c.args.layout.now c.args.thread (operation c.args.op.now) c.requires.thread c.requires.conds c.requires.fits) c.group_of.ensures
