@@ -1,0 +1,5 @@
+pub mod KeepingLemmas
+pub mod FlatToDeedsLemmas
+pub mod DeedsToFlatLemmas
+pub mod WholeLemmas
+pub mod SteppingLemmas
