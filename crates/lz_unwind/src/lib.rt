@@ -1,2 +1,6 @@
 //! Inlining and unwinding: the code of each thread as one tree, without a call and without a loop.
 #![tactic(auto)]
+
+mod laws;
+
+pub use laws::same_traces;
