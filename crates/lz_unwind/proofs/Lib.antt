@@ -6,3 +6,4 @@ pub mod TurnsLemmas
 pub mod GrowsLemmas
 pub mod StatementsLemmas
 pub mod ThreadsLemmas
+pub mod SitesLemmas
