@@ -1,0 +1,3 @@
+pub mod OpensLemmas
+pub mod TreeFrontsLemmas
+pub mod RowsLemmas

@@ -3,3 +3,4 @@ pub mod BoundedTraces
 pub mod CreateSites
 pub mod WellFormed
 pub mod SlottedPrograms
+pub mod Rows

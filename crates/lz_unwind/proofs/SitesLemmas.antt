@@ -9,15 +9,16 @@ use Rattle.lz_tree.specs.declared.scoped.KnownName.TheVariants as known
 use Rattle.lz_tree.specs.declared.scoped.Object.{Object}
 use Rattle.lz_tree.specs.declared.scoped.Object.TheVariants.{Local, Cell, Mutex, Cond, Handle, Routine, Known}
 use Rattle.lz_tree.specs.Kinds.{kind_of, kind_or}
-use Rattle.lz_tree.specs.ScopedTrees.{ScopedExpression, constant, null, text, object, address, paren, unary, cast, binary, choose, assign, step, call, Lvalue, lvalue, ScopedIndex, whole, element, ScopedExpressions, none, and, ScopedInitializer, nothing, single, listed, ScopedInitDeclarator, ScopedStatement, empty, eval, block, declare, when, while, do_while, for, break, continue, return, label, ScopedBranch, absent, branch, ScopedStatements, nil, cons}
+use Rattle.lz_tree.specs.ScopedTrees.{ScopedExpression, constant, null, text, object, address, paren, unary, cast, binary, choose, assign, step, call, Lvalue, lvalue, ScopedIndex, whole, element, ScopedExpressions, none, and, ScopedInitializer, nothing, single, listed, ScopedInitDeclarator, ScopedStatement, empty, eval, block, declare, when, while, do_while, for, break, continue, return, label, ScopedBranch, absent, branch, ScopedStatements, nil, cons, ScopedProgram, function_at}
 use Rattle.lz_tree.specs.WellFormed.{is_logical}
-use Rattle.lz_tree.specs.WellScoped.{Setting, Form, some_value, no_attribute, format, start, new_thread, made_thread, mutex, cond, IsScoped, IsIndex, AreValues, AreArguments, IsArgument, IsIndexed, IsStart, IsNoAttribute, IsFormat, takes_more, forms_of, number_of, MayTest, MayScope, IsFirst, IsDeclared, AreDeclared, IsReturned, IsCode, IsBranch, AreCode}
+use Rattle.lz_tree.specs.WellScoped.{Setting, Form, some_value, no_attribute, format, start, new_thread, made_thread, mutex, cond, IsScoped, IsIndex, AreValues, AreArguments, IsArgument, IsIndexed, IsStart, IsNoAttribute, IsFormat, takes_more, forms_of, number_of, MayTest, MayScope, IsFirst, IsDeclared, AreDeclared, IsReturned, IsCode, IsBranch, AreCode, IsWellScoped, MayCall, setting_of}
 use Rattle.lz_model.specs.CodeTraces.{is_object_argument, is_division}
 use Rattle.lz_bound.specs.BoundedTrees as tree
-use Rattle.lz_bound.specs.CreateSites.{named_by, started_in, call_sites, sites, lvalue_sites, index_sites, all_sites, optional_sites, initializer_sites, declarators_sites, times, code_sites, branch_sites, parts_sites, no_bodies, tree_sites}
+use Rattle.lz_bound.specs.CreateSites.{named_by, started_in, call_sites, sites, lvalue_sites, index_sites, all_sites, optional_sites, initializer_sites, declarators_sites, times, code_sites, branch_sites, parts_sites, no_bodies, tree_sites, sites_within}
 use Rattle.lz_unwind.specs.Moved.{shift, shift_index, shift_all, has_call, index_has_call, all_have_call}
 use Rattle.lz_unwind.specs.Pieces.{Made, made, Callees, unless_call, at_temp, inside_of, tested, at_place, inside_place, head_kind, tail_kinds, operands, shape_of}
 use Rattle.lz_unwind.specs.Translation.{into, index_into, arguments_into, known_into, handed_into, printed_into, discarded, set_made, test_made, test_of, unless_made, step_made, cleared, listed_made, integer_made, object_made, declarators_made, turns_made, do_turns_made, is_silent, eval_made, return_made, statement_made, branch_made, statements_made}
+use Rattle.lz_unwind.specs.Inlining.{callees, inline_within}
 use Rattle.lz_unwind.proofs.MovedLemmas.{or_left, or_right}
 use Rattle.lz_unwind.proofs.PiecesLemmas.{takes_object, thing_handed, rest_calls_none, more_values}
 
@@ -140,6 +141,36 @@ start_calls_none w e f = absurd f
 format_sites : (bodies : ℕ → List ℕ) (e : ScopedExpression) → IsFormat e → sites bodies e ≡ []
 format_sites bodies (text line kind) f = refl
 format_sites bodies e f = absurd f
+
+value_scoped : (w : Setting) (k : Option IntType) (e : ScopedExpression) → IsReturned w k (Some e) → IsScoped w e
+value_scoped w None e f = absurd f
+value_scoped w (Some k) e f = f.0
+
+both_left : (a b : Bool) → (a && b) ≡ true → a ≡ true
+both_left true b h = refl
+both_left false b h = h
+
+both_right : (a b : Bool) → (a && b) ≡ true → b ≡ true
+both_right true b h = h
+both_right false b h = absurd (false≢true h)
+
+-- an expression with no action creates nothing
+silent_sites : (bodies : ℕ → List ℕ) (e : ScopedExpression) → is_silent e ≡ true → sites bodies e ≡ []
+silent_sites bodies (constant line v form kind) h = refl
+silent_sites bodies (null line kind) h = refl
+silent_sites bodies (paren line e kind) h = silent_sites bodies e h
+silent_sites bodies (unary line op e kind) h = silent_sites bodies e h
+silent_sites bodies (cast line to e kind) h = silent_sites bodies e h
+silent_sites bodies (binary line op a b kind) h =
+    let k = both_right (not (is_logical op || is_division op)) (is_silent a && is_silent b) h in
+    ap₂ ◌++◌ (silent_sites bodies a (both_left (is_silent a) (is_silent b) k)) (silent_sites bodies b (both_right (is_silent a) (is_silent b) k))
+silent_sites bodies (text line kind) h = absurd (false≢true h)
+silent_sites bodies (object of kind) h = absurd (false≢true h)
+silent_sites bodies (address line of kind) h = absurd (false≢true h)
+silent_sites bodies (choose line a b c kind) h = absurd (false≢true h)
+silent_sites bodies (assign line op to e kind) h = absurd (false≢true h)
+silent_sites bodies (step line of going before kind) h = absurd (false≢true h)
+silent_sites bodies (call line callee args kind) h = absurd (false≢true h)
 
 -- ---- lists
 
@@ -300,3 +331,123 @@ module _ (bodies : ℕ → List ℕ) (w : Setting) (env : Callees) (kept : (f i 
     known_sites line known.AtomicBegin (and e rest) kind x k m c f = absurd (false≢true f.0)
     known_sites line known.AtomicEnd none kind x k m c f = absurd (false≢true c)
     known_sites line known.AtomicEnd (and e rest) kind x k m c f = absurd (false≢true f.0)
+
+  set_sites : (e : ScopedExpression) (x : ℕ) (k : IntType) (m : ℕ) → IsScoped w e → tree_sites (set_made env o e x k m).tree ≡ sites bodies e
+  set_sites e x k m f = by_call (has_call e) _ _ _ (λ c. shift_sites bodies o e c) (λ c. append-nil (tree_sites (into env o e m (kind_of e) (suc m)).tree) ∙ into_sites e m (kind_of e) (suc m) f)
+
+  discarded_sites : (e : ScopedExpression) (m : ℕ) → IsScoped w e → tree_sites (discarded env o e m).tree ≡ sites bodies e
+  discarded_sites e m f = by_call (has_call e) _ _ _ (λ c. shift_sites bodies o e c) (λ c. into_sites e m (kind_of e) (suc m) f)
+
+  -- ---- tests and steps
+
+  test_sites : (b : Bool) (e : ScopedExpression) (m : ℕ) → has_call e ≡ b → IsScoped w e →
+      tree_sites (unless_call b (made tree.nothing m) (into env o e m (kind_of e) (suc m))).tree ++ sites no_bodies (test_of env o e b m) ≡ sites bodies e
+  test_sites false e m c f = shift_sites bodies o e c
+  test_sites true e m c f = append-nil (tree_sites (into env o e m (kind_of e) (suc m)).tree) ∙ into_sites e m (kind_of e) (suc m) f
+
+  unless_sites : (test : Option ScopedExpression) (m : ℕ) → MayTest w test → tree_sites (unless_made env o test m).tree ≡ optional_sites bodies test
+  unless_sites None m f = refl
+  unless_sites (Some e) m f = ap (λ (xs : List ℕ). tree_sites (test_made env o e m).tree ++ xs) (append-nil (sites no_bodies (test_of env o e (has_call e) m))) ∙ test_sites (has_call e) e m refl f.0
+
+  step_sites : (change : Option ScopedExpression) (m : ℕ) → MayScope w change → tree_sites (step_made env o change m).tree ≡ optional_sites bodies change
+  step_sites None m f = refl
+  step_sites (Some e) m f = discarded_sites e m f
+
+  turns_sites : (test body change : ℕ → Made) (t b c : List ℕ) → ((m : ℕ) → tree_sites (test m).tree ≡ t) → ((m : ℕ) → tree_sites (body m).tree ≡ b) → ((m : ℕ) → tree_sites (change m).tree ≡ c) → (n m : ℕ) →
+      tree_sites (turns_made test body change n m).tree ≡ times bodies n (t ++ (b ++ c)) ++ t
+  turns_sites test body change t b c et eb ec zero m = append-nil (tree_sites (test m).tree) ∙ et m
+  turns_sites test body change t b c et eb ec (suc n) m =
+      let m1 = (test m).next in let m2 = (body m1).next in let m3 = (change m2).next in let rest = times bodies n (t ++ (b ++ c)) ++ t in
+      ap₂ ◌++◌ (et m) (ap₂ ◌++◌ (eb m1) (ap₂ ◌++◌ (ec m2) (turns_sites test body change t b c et eb ec n m3))) ∙
+      sym (append_assoc (t ++ (b ++ c)) (times bodies n (t ++ (b ++ c))) t ∙ append_assoc t (b ++ c) rest ∙ ap (λ (xs : List ℕ). t ++ xs) (append_assoc b c rest))
+
+  do_turns_sites : (test body : ℕ → Made) (t b : List ℕ) → ((m : ℕ) → tree_sites (test m).tree ≡ t) → ((m : ℕ) → tree_sites (body m).tree ≡ b) → (n m : ℕ) →
+      tree_sites (do_turns_made test body n m).tree ≡ times bodies n (b ++ t)
+  do_turns_sites test body t b et eb zero m = refl
+  do_turns_sites test body t b et eb (suc n) m =
+      let m1 = (body m).next in let m2 = (test m1).next in
+      ap₂ ◌++◌ (eb m) (ap₂ ◌++◌ (et m1) (do_turns_sites test body t b et eb n m2)) ∙ sym (append_assoc b t (times bodies n (b ++ t)))
+
+  -- ---- declarations
+
+  cleared_sites : (kind : IntType) (i more m : ℕ) → tree_sites (cleared env o kind i more m).tree ≡ []
+  cleared_sites kind i zero m = refl
+  cleared_sites kind i (suc more) m = refl
+
+  listed_sites : (kind : IntType) (es : ScopedExpressions) (i more m : ℕ) → AreValues w es → number_of es ≤ more → tree_sites (listed_made env o kind es i more m).tree ≡ all_sites bodies es
+  listed_sites kind none i more m f few = cleared_sites kind i more m
+  listed_sites kind (and e rest) i zero m f few = (let bad : ⊥ = omega (arith, few) in absurd bad)
+  listed_sites kind (and e rest) i (suc more) m f few = ap₂ ◌++◌ (set_sites e (o + i) kind m f.0) (listed_sites kind rest (suc i) more (set_made env o e (o + i) kind m).next f.2 (omega (arith, few)))
+
+  integer_sites : (first len : ℕ) (kind : IntType) (value : ScopedInitializer) (m : ℕ) → IsFirst w len value → tree_sites (integer_made env o first len kind value m).tree ≡ initializer_sites bodies value
+  integer_sites first len kind nothing m f = refl
+  integer_sites first len kind (single e) m f = set_sites e (o + first) kind m f.0
+  integer_sites first len kind (listed values) m f = listed_sites kind values first len m f.0 f.1
+
+  object_sites : (x : Object) (value : ScopedInitializer) (m : ℕ) → IsDeclared w x value → tree_sites (object_made env o x value m).tree ≡ initializer_sites bodies value
+  object_sites (Local first len kind) value m f = integer_sites first len kind value m f.1
+  object_sites (Handle first len) value m f = sym (ap (λ (v : ScopedInitializer). initializer_sites bodies v) f.1)
+  object_sites (Cell first len kind) value m f = absurd f
+  object_sites (Mutex first len) value m f = absurd f
+  object_sites (Cond first len) value m f = absurd f
+  object_sites (Routine function) value m f = absurd f
+  object_sites (Known name) value m f = absurd f
+
+  declared_sites : (ds : List ScopedInitDeclarator) (m : ℕ) → AreDeclared w ds → tree_sites (declarators_made env o ds m).tree ≡ declarators_sites bodies ds
+  declared_sites [] m f = refl
+  declared_sites (d ∷ rest) m f = ap₂ ◌++◌ (object_sites d.object d.first m f.0) (declared_sites rest (object_made env o d.object d.first m).next f.1)
+
+  -- ---- statements
+
+  module _ (n : ℕ) (result : IntType) (gives_ : Option IntType) where
+    eval_sites : (a : Bool) (e : ScopedExpression) (m : ℕ) → is_silent e ≡ a → IsScoped w e → tree_sites (eval_made env o w.locals n result e a m).tree ≡ sites bodies e
+    eval_sites true e m h f = sym (silent_sites bodies e h)
+    eval_sites false e m h f = discarded_sites e m f
+
+    return_sites : (value : Option ScopedExpression) (m : ℕ) → IsReturned w gives_ value → tree_sites (return_made env o w.locals n result value m).tree ≡ optional_sites bodies value
+    return_sites None m f = refl
+    return_sites (Some e) m f = append-nil (tree_sites (set_made env o e (o + w.locals) result m).tree) ∙ set_sites e (o + w.locals) result m (value_scoped w gives_ e f)
+
+    mutual
+      pub statement_sites : (b : Bool) (st : ScopedStatement) (m : ℕ) → IsCode w gives_ b st → tree_sites (statement_made env o w.locals n result st m).tree ≡ code_sites bodies n st
+      statement_sites b empty m f = refl
+      statement_sites b (eval e) m f = eval_sites (is_silent e) e m refl f
+      statement_sites b (block parts) m f = statements_sites b parts m f
+      statement_sites b (declare of) m f = declared_sites of.declarators m f
+      statement_sites b (when line test first second) m f =
+          let m1 = (test_made env o test m).next in let m2 = (statement_made env o w.locals n result first m1).next in
+          sym (append_assoc (tree_sites (test_made env o test m).tree) (sites no_bodies (test_of env o test (has_call test) m)) _) ∙
+          ap₂ ◌++◌ (test_sites (has_call test) test m refl f.0) (ap₂ ◌++◌ (statement_sites b first m1 f.2) (else_sites b second m2 f.3))
+      statement_sites b (while line test body) m f =
+          turns_sites (unless_made env o (Some test)) (λ k. statement_made env o w.locals n result body k) (step_made env o None) (sites bodies test) (code_sites bodies n body) []
+            (λ k. unless_sites (Some test) k (f.0, f.1)) (λ k. statement_sites true body k f.2) (λ k. step_sites None k tt) n m ∙
+          ap (λ (xs : List ℕ). times bodies n (sites bodies test ++ xs) ++ sites bodies test) (append-nil (code_sites bodies n body))
+      statement_sites b (do_while line body test) m f =
+          do_turns_sites (unless_made env o (Some test)) (λ k. statement_made env o w.locals n result body k) (sites bodies test) (code_sites bodies n body)
+            (λ k. unless_sites (Some test) k (f.1, f.2)) (λ k. statement_sites true body k f.0) n m
+      statement_sites b (for line first test change body) m f =
+          let m1 = (statement_made env o w.locals n result first m).next in
+          ap₂ ◌++◌ (statement_sites false first m f.0)
+            (turns_sites (unless_made env o test) (λ k. statement_made env o w.locals n result body k) (step_made env o change) (optional_sites bodies test) (code_sites bodies n body) (optional_sites bodies change)
+              (λ k. unless_sites test k f.1) (λ k. statement_sites true body k f.3) (λ k. step_sites change k f.2) n m1)
+      statement_sites b (break line) m f = refl
+      statement_sites b (continue line) m f = refl
+      statement_sites b (return line value) m f = return_sites value m f
+      statement_sites b (label name of) m f = statement_sites b of m f
+
+      else_sites : (b : Bool) (br : ScopedBranch) (m : ℕ) → IsBranch w gives_ b br → tree_sites (branch_made env o w.locals n result br m).tree ≡ branch_sites bodies n br
+      else_sites b absent m f = refl
+      else_sites b (branch of) m f = statement_sites b of m f
+
+      statements_sites : (b : Bool) (ss : ScopedStatements) (m : ℕ) → AreCode w gives_ b ss → tree_sites (statements_made env o w.locals n result ss m).tree ≡ parts_sites bodies n ss
+      statements_sites b nil m f = refl
+      statements_sites b (cons first rest) m f = ap₂ ◌++◌ (statement_sites b first m f.0) (statements_sites b rest (statement_made env o w.locals n result first m).next f.1)
+
+-- ---- functions
+
+-- The create sites of the tree of a function, in their order, name the functions of its create sites, one for one,
+-- counted in the inlined and unwound text.
+pub thread_sites : (p : ScopedProgram) (n : ℕ) (W : IsWellScoped p) (d f o m : ℕ) → f < length p.functions → tree_sites (inline_within p n d f o m).tree ≡ sites_within p n d f
+thread_sites p n W zero f o m there = refl
+thread_sites p n W (suc d) f o m there =
+    statement_sites (sites_within p n d) (setting_of p W.plan f) (callees p (inline_within p n d)) (λ g i k may. thread_sites p n W d g i k may.there) o n (kind_or (function_at p f).gives) (function_at p f).gives false (function_at p f).body m (W.each f there).body

@@ -3,4 +3,4 @@
 
 mod laws;
 
-pub use laws::same_traces;
+pub use laws::{same_sites, same_traces};
