@@ -7,3 +7,4 @@ pub mod GrowsLemmas
 pub mod StatementsLemmas
 pub mod ThreadsLemmas
 pub mod SitesLemmas
+pub mod ScopedLemmas
