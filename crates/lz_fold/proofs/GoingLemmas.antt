@@ -1,5 +1,5 @@
 -- One node more, and where all went.
-use Rattle.std.proofs.Common.{◌≡◌, ℕ, zero, suc, ◌+◌, ◌-◌, ◌<◌, ◌≤◌, ◌⊎◌, inl, inr, Bool, true, false, cond, List, [], ◌∷◌, ◌++◌, length, take, drop, get_or, Option, None, Some, eqb, refl, sym, ◌∙◌, ap, ap₂, subst, arith}
+use Rattle.std.proofs.Common.{◌≡◌, ℕ, zero, suc, ◌+◌, ◌-◌, ◌<◌, ◌≤◌, ◌⊎◌, inl, inr, cond, List, [], ◌∷◌, ◌++◌, length, take, get_or, eqb, refl, sym, ◌∙◌, ap, ap₂, subst, arith}
 use Rattle.std.specs.Prelude.{slice_index}
 use Rattle.std.proofs.lemmas.Bool.{cases_lt}
 use Rattle.std.proofs.lemmas.List.{length-append, get_or_default, length-take-le, get_or_append_left, get_or-append_right, take_more, take_all}
@@ -9,11 +9,11 @@ use Rattle.lz_ssa.specs.declared.node.Node.TheVariants.{Constant, Input, Unary, 
 use Rattle.lz_ssa.specs.declared.node.Nodes.{Nodes}
 use Rattle.lz_ssa.specs.NodeValues.{node_value, values_from, values_of, IsNodeOf, AreNodesFrom, AreWellFormed}
 use Rattle.lz_ssa.specs.NodeWeight.{node_number, nodes_weight}
-use Rattle.lz_ssa.proofs.ValueLemmas.{values_length, values_keep, value_stays, value_last, nodes_append, nodes_one, values_words, weight_append}
+use Rattle.lz_ssa.proofs.ValueLemmas.{values_keep, value_stays, value_last, nodes_append, nodes_one, values_words, weight_append}
 use Rattle.lz_ssa.proofs.EvaluateLemmas.{node_at}
 use Rattle.lz_fold.specs.declared.rules.Folded.{Folded}
 use Rattle.lz_fold.specs.declared.rules.Folded.TheVariants.{Same, New}
-use Rattle.lz_fold.specs.Folding.{Words, IsKnown, IsWordIfKnown, FoldsTo, FoldsBehind, folded_value, IsFoldedOf, folded_number, Operands, renamed, AreNodes, IsPlaced, Went, IsFoldOf}
+use Rattle.lz_fold.specs.Folding.{FoldsTo, FoldsBehind, folded_value, IsFoldedOf, folded_number, OperandsAre, Operands, renamed, AreNodes, IsPlaced, AnyNode, Went, IsFoldOf}
 
 -- ---- the word of a constant
 
@@ -79,21 +79,22 @@ node_operands inputs before (Binary op kind left right) is = is
 node_operands inputs before (Convert from to of) is = is
 node_operands inputs before (Choose test chosen other) is = is
 
-pub renamed_operands : (before after : ℕ) (places : List ℕ) (node : Node) → ((k : ℕ) → k < before → slice_index places k < after) → Operands before node → Operands after (renamed places node)
-renamed_operands before after places (Constant value) w is = tt
-renamed_operands before after places (Input number kind) w is = tt
-renamed_operands before after places (Unary op kind of) w is = w of is
-renamed_operands before after places (Binary op kind left right) w is = (w left is.0, w right is.1)
-renamed_operands before after places (Convert from to of) w is = w of is
-renamed_operands before after places (Choose test chosen other) w is = (w test is.0, w chosen is.1, w other is.2)
+pub any_operands : (node : Node) → OperandsAre AnyNode node
+any_operands (Constant value) = tt
+any_operands (Input number kind) = tt
+any_operands (Unary op kind of) = tt
+any_operands (Binary op kind left right) = (tt, tt)
+any_operands (Convert from to of) = tt
+any_operands (Choose test chosen other) = (tt, tt, tt)
 
-renamed_formed : (inputs before after : ℕ) (places : List ℕ) (node : Node) → ((k : ℕ) → k < before → slice_index places k < after) → IsNodeOf inputs before node → IsNodeOf inputs after (renamed places node)
-renamed_formed inputs before after places (Constant value) w is = is
-renamed_formed inputs before after places (Input number kind) w is = is
-renamed_formed inputs before after places (Unary op kind of) w is = w of is
-renamed_formed inputs before after places (Binary op kind left right) w is = (w left is.0, w right is.1)
-renamed_formed inputs before after places (Convert from to of) w is = w of is
-renamed_formed inputs before after places (Choose test chosen other) w is = (w test is.0, w chosen is.1, w other is.2)
+renamed_formed : (inputs before after : ℕ) (P : ℕ → Type 0) (places : List ℕ) (node : Node) → ((k : ℕ) → k < before → P k → slice_index places k < after) → OperandsAre P node → IsNodeOf inputs before node
+    → IsNodeOf inputs after (renamed places node)
+renamed_formed inputs before after P places (Constant value) w o is = is
+renamed_formed inputs before after P places (Input number kind) w o is = is
+renamed_formed inputs before after P places (Unary op kind of) w o is = w of is o
+renamed_formed inputs before after P places (Binary op kind left right) w o is = (w left is.0 o.0, w right is.1 o.1)
+renamed_formed inputs before after P places (Convert from to of) w o is = w of is o
+renamed_formed inputs before after P places (Choose test chosen other) w o is = (w test is.0 o.0, w chosen is.1 o.1, w other is.2 o.2)
 
 renamed_number : (places : List ℕ) (node : Node) → node_number (renamed places node) ≡ node_number node
 renamed_number places (Constant value) = refl
@@ -103,15 +104,16 @@ renamed_number places (Binary op kind left right) = refl
 renamed_number places (Convert from to of) = refl
 renamed_number places (Choose test chosen other) = refl
 
-renamed_value : (inputs before : ℕ) (places old new : List ℕ) (input : ℕ → ℕ) (node : Node) → ((k : ℕ) → k < before → slice_index new (slice_index places k) ≡ slice_index old k) → IsNodeOf inputs before node
-    → node_value (renamed places node) input new ≡ node_value node input old
-renamed_value inputs before places old new input (Constant value) s is = refl
-renamed_value inputs before places old new input (Input number kind) s is = refl
-renamed_value inputs before places old new input (Unary op kind of) s is = ap (λ (w : ℕ). unary_value op w kind) (s of is)
-renamed_value inputs before places old new input (Binary op kind left right) s is = ap₂ (λ (v w : ℕ). binary_value op v w kind) (s left is.0) (s right is.1)
-renamed_value inputs before places old new input (Convert from to of) s is = ap (λ (w : ℕ). converted w from to) (s of is)
-renamed_value inputs before places old new input (Choose test chosen other) s is =
-    ap₂ (λ (v w : ℕ). cond (eqb (slice_index new (slice_index places test)) 0) v w) (s other is.2) (s chosen is.1) ∙ ap (λ (t : ℕ). cond (eqb t 0) (slice_index old other) (slice_index old chosen)) (s test is.0)
+renamed_value : (inputs before : ℕ) (P : ℕ → Type 0) (places old new : List ℕ) (input : ℕ → ℕ) (node : Node) → ((k : ℕ) → k < before → P k → slice_index new (slice_index places k) ≡ slice_index old k) → OperandsAre P node
+    → IsNodeOf inputs before node → node_value (renamed places node) input new ≡ node_value node input old
+renamed_value inputs before P places old new input (Constant value) s o is = refl
+renamed_value inputs before P places old new input (Input number kind) s o is = refl
+renamed_value inputs before P places old new input (Unary op kind of) s o is = ap (λ (w : ℕ). unary_value op w kind) (s of is o)
+renamed_value inputs before P places old new input (Binary op kind left right) s o is = ap₂ (λ (v w : ℕ). binary_value op v w kind) (s left is.0 o.0) (s right is.1 o.1)
+renamed_value inputs before P places old new input (Convert from to of) s o is = ap (λ (w : ℕ). converted w from to) (s of is o)
+renamed_value inputs before P places old new input (Choose test chosen other) s o is =
+    ap₂ (λ (v w : ℕ). cond (eqb (slice_index new (slice_index places test)) 0) v w) (s other is.2 o.2) (s chosen is.1 o.1)
+    ∙ ap (λ (t : ℕ). cond (eqb t 0) (slice_index old other) (slice_index old chosen)) (s test is.0 o.0)
 
 -- ---- what is placed
 
@@ -148,23 +150,23 @@ placed inputs before after (New node) number are is e =
     }))
 
 -- one node more
-pub went_next : (inputs : ℕ) (old before after : List Node) (places : List ℕ) (node : Node) (folded : Folded) (number : ℕ) → FoldsBehind before (renamed places node) folded → IsPlaced before after folded number
-    → Went inputs old before places → IsNodeOf inputs (length old) node → Went inputs (old ++ node ∷ []) after (places ++ number ∷ [])
-went_next inputs old before after places node folded number folds put went is =
+pub went_next : (inputs : ℕ) (P : ℕ → Type 0) (old before after : List Node) (places : List ℕ) (node : Node) (folded : Folded) (number : ℕ) → FoldsBehind before (renamed places node) folded → IsPlaced before after folded number
+    → Went inputs P old before places → OperandsAre P node → IsNodeOf inputs (length old) node → Went inputs P (old ++ node ∷ []) after (places ++ number ∷ [])
+went_next inputs P old before after places node folded number folds put went are is =
     let size = length-append old (node ∷ []) in
     let count = went.count in
     let longer = length-append places (number ∷ []) in
     record {
       count = omega (arith, size, count, longer);
       formed = here.formed;
-      within = λ k lt. within_at k (ltb_cases k) lt;
-      same = λ input words k lt. same_at input words k (ltb_cases k) lt;
+      within = λ k lt needed. within_at k (ltb_cases k) lt needed;
+      same = λ input words k lt needed. same_at input words k (ltb_cases k) lt needed;
       fewer = let f = went.fewer in let g = here.fewer in omega (arith, f, g, size);
       lighter = let f = went.lighter in let g = here.lighter in let h = folds.lighter in let n = renamed_number places node in let w = weight_append old (node ∷ []) in omega (arith, f, g, h, n, w);
     }
   where
     named : IsNodeOf inputs (length before) (renamed places node)
-    named = renamed_formed inputs (length old) (length before) places node went.within is
+    named = renamed_formed inputs (length old) (length before) P places node went.within are is
 
     here : Placed inputs before after folded number
     here = placed inputs before after folded number went.formed (folds.formed inputs (length before) named) put
@@ -179,42 +181,73 @@ went_next inputs old before after places node folded number folds put went is =
     last k e = let c = went.count in get_or-append_right places (number ∷ []) (length places) k 0 refl (omega (arith, e, c))
         ∙ ap (λ (n : ℕ). get_or (number ∷ []) n 0) (let z : k - length places ≡ 0 = omega (arith, e, c) in z)
 
-    within_at : (k : ℕ) → (k < length old) ⊎ (length old ≤ k) → k < length (old ++ node ∷ []) → slice_index (places ++ number ∷ []) k < length after
-    within_at k (inl lt) below = let w = went.within k lt in let l = here.longer in let e = front k lt in omega (arith, w, l, e)
-    within_at k (inr le) below = let size = length-append old (node ∷ []) in let e = last k (omega (arith, le, below, size)) in let w = here.within in omega (arith, e, w)
+    within_at : (k : ℕ) → (k < length old) ⊎ (length old ≤ k) → k < length (old ++ node ∷ []) → P k → slice_index (places ++ number ∷ []) k < length after
+    within_at k (inl lt) below needed = let w = went.within k lt needed in let l = here.longer in let e = front k lt in omega (arith, w, l, e)
+    within_at k (inr le) below needed = let size = length-append old (node ∷ []) in let e = last k (omega (arith, le, below, size)) in let w = here.within in omega (arith, e, w)
 
-    same_at : (input : ℕ → ℕ) → ((i : ℕ) → input i < value_bound) → (k : ℕ) → (k < length old) ⊎ (length old ≤ k) → k < length (old ++ node ∷ [])
+    same_at : (input : ℕ → ℕ) → ((i : ℕ) → input i < value_bound) → (k : ℕ) → (k < length old) ⊎ (length old ≤ k) → k < length (old ++ node ∷ []) → P k
         → slice_index (values_of input after) (slice_index (places ++ number ∷ []) k) ≡ slice_index (values_of input (old ++ node ∷ [])) k
-    same_at input words k (inl lt) below =
-        ap (λ (n : ℕ). slice_index (values_of input after) n) (front k lt) ∙ here.stays input (slice_index places k) (went.within k lt) ∙ went.same input words k lt ∙ sym (value_stays input old (node ∷ []) k lt)
-    same_at input words k (inr le) below =
+    same_at input words k (inl lt) below needed =
+        ap (λ (n : ℕ). slice_index (values_of input after) n) (front k lt) ∙ here.stays input (slice_index places k) (went.within k lt needed) ∙ went.same input words k lt needed ∙ sym (value_stays input old (node ∷ []) k lt)
+    same_at input words k (inr le) below needed =
         let size = length-append old (node ∷ []) in
         let at : k ≡ length old = omega (arith, le, below, size) in
         ap (λ (n : ℕ). slice_index (values_of input after) n) (last k at) ∙ here.value input ∙ folds.same input words
-        ∙ renamed_value inputs (length old) places (values_of input old) (values_of input before) input node (went.same input words) is
+        ∙ renamed_value inputs (length old) P places (values_of input old) (values_of input before) input node (went.same input words) are is
         ∙ sym (value_last input old node) ∙ ap (λ (n : ℕ). slice_index (values_of input (old ++ node ∷ [])) n) (sym at)
 
+-- a node that is none of these is left out
+pub went_over : (inputs : ℕ) (P : ℕ → Type 0) (old new : List Node) (places : List ℕ) (node : Node) (number : ℕ) → Went inputs P old new places → (P (length old) → ⊥) → Went inputs P (old ++ node ∷ []) new (places ++ number ∷ [])
+went_over inputs P old new places node number went out =
+    let size = length-append old (node ∷ []) in
+    let count = went.count in
+    let longer = length-append places (number ∷ []) in
+    record {
+      count = omega (arith, size, count, longer);
+      formed = went.formed;
+      within = λ k lt needed. within_at k (cases_lt k (length old)) lt needed;
+      same = λ input words k lt needed. same_at input words k (cases_lt k (length old)) lt needed;
+      fewer = let f = went.fewer in omega (arith, f, size);
+      lighter = let f = went.lighter in let w = weight_append old (node ∷ []) in omega (arith, f, w);
+    }
+  where
+    front : (k : ℕ) → k < length old → slice_index (places ++ number ∷ []) k ≡ slice_index places k
+    front k lt = let c = went.count in get_or_append_left places (number ∷ []) 0 k (omega (arith, lt, c))
+
+    none_here : (k : ℕ) → length old ≤ k → k < length (old ++ node ∷ []) → P k → ⊥
+    none_here k le below needed = let size = length-append old (node ∷ []) in let at : k ≡ length old = omega (arith, le, below, size) in out (subst P at needed)
+
+    within_at : (k : ℕ) → (k < length old) ⊎ (length old ≤ k) → k < length (old ++ node ∷ []) → P k → slice_index (places ++ number ∷ []) k < length new
+    within_at k (inl lt) below needed = let w = went.within k lt needed in let e = front k lt in omega (arith, w, e)
+    within_at k (inr le) below needed = absurd (none_here k le below needed)
+
+    same_at : (input : ℕ → ℕ) → ((i : ℕ) → input i < value_bound) → (k : ℕ) → (k < length old) ⊎ (length old ≤ k) → k < length (old ++ node ∷ []) → P k
+        → slice_index (values_of input new) (slice_index (places ++ number ∷ []) k) ≡ slice_index (values_of input (old ++ node ∷ [])) k
+    same_at input words k (inl lt) below needed = ap (λ (n : ℕ). slice_index (values_of input new) n) (front k lt) ∙ went.same input words k lt needed ∙ sym (value_stays input old (node ∷ []) k lt)
+    same_at input words k (inr le) below needed = absurd (none_here k le below needed)
+
 -- no node
-pub went_none : (inputs : ℕ) → Went inputs [] [] []
+pub went_none : (inputs : ℕ) (P : ℕ → Type 0) → Went inputs P [] [] []
 unfolding AreNodesFrom
-went_none inputs = record {
+went_none inputs P = record {
   count = refl;
   formed = tt;
-  within = λ k lt. absurd (let no_item : ⊥ = omega (arith, lt) in no_item);
-  same = λ input words k lt. absurd (let no_item : ⊥ = omega (arith, lt) in no_item);
+  within = λ k lt needed. absurd (let no_item : ⊥ = omega (arith, lt) in no_item);
+  same = λ input words k lt needed. absurd (let no_item : ⊥ = omega (arith, lt) in no_item);
   fewer = omega arith;
   lighter = omega arith;
 }
 
 -- all nodes
-pub went_all : (nodes made : Nodes) (places : List ℕ) → AreWellFormed nodes → Went nodes.inputs nodes.list made.list places → made.inputs ≡ nodes.inputs → made.fails ≡ slice_index places nodes.fails → IsFoldOf nodes made
-went_all nodes made places formed went inputs fails = record {
+pub went_all : (nodes made : Nodes) (P : ℕ → Type 0) (places : List ℕ) → AreWellFormed nodes → Went nodes.inputs P nodes.list made.list places → P nodes.fails → made.inputs ≡ nodes.inputs
+    → made.fails ≡ slice_index places nodes.fails → IsFoldOf nodes made
+went_all nodes made P places formed went needed inputs fails = record {
   formed = record {
     list = subst (λ (n : ℕ). AreNodesFrom n 0 made.list) (sym inputs) went.formed;
-    fails = let w = went.within nodes.fails formed.fails in omega (arith, w, fails);
+    fails = let w = went.within nodes.fails formed.fails needed in omega (arith, w, fails);
   };
   inputs = inputs;
-  same = λ input words. ap (λ (n : ℕ). slice_index (values_of input made.list) n) fails ∙ went.same input words nodes.fails formed.fails;
+  same = λ input words. ap (λ (n : ℕ). slice_index (values_of input made.list) n) fails ∙ went.same input words nodes.fails formed.fails needed;
   fewer = went.fewer;
   lighter = went.lighter;
 }
@@ -228,38 +261,38 @@ node_of nodes list i x formed e lt is =
     subst (λ (k : ℕ). IsNodeOf nodes.inputs k x) (let z : 0 + i ≡ length (take i list) = omega (arith, size) in z)
         (node_at nodes.inputs 0 list i x (subst (λ (xs : List Node). AreNodesFrom nodes.inputs 0 xs) (sym e) formed.list) lt is)
 
-pub operands_of : (nodes : Nodes) (list out : List Node) (places lent : List ℕ) (i : ℕ) (x : Node) → AreWellFormed nodes → list ≡ nodes.list → i < length list → x ≡ get_or list i x
-    → Went nodes.inputs (take i list) out places → lent ≡ places → Operands (length lent) x
-operands_of nodes list out places lent i x formed e lt is went same =
+pub operands_of : (P : ℕ → Type 0) (nodes : Nodes) (list out : List Node) (places lent : List ℕ) (i : ℕ) (x : Node) → AreWellFormed nodes → list ≡ nodes.list → i < length list → x ≡ get_or list i x
+    → Went nodes.inputs P (take i list) out places → lent ≡ places → Operands (length lent) x
+operands_of P nodes list out places lent i x formed e lt is went same =
     subst (λ (k : ℕ). Operands k x) (sym went.count ∙ sym (ap (λ (xs : List ℕ). length xs) same)) (node_operands nodes.inputs (length (take i list)) x (node_of nodes list i x formed e lt is))
 
-pub within_lent : (inputs : ℕ) (old out : List Node) (places lent : List ℕ) → Went inputs old out places → lent ≡ places → (k : ℕ) → k < length lent → slice_index lent k < length out
+pub within_lent : (inputs : ℕ) (old out : List Node) (places lent : List ℕ) → Went inputs AnyNode old out places → lent ≡ places → (k : ℕ) → k < length lent → slice_index lent k < length out
 within_lent inputs old out places lent went same k lt =
     let count = went.count in
-    subst (λ (xs : List ℕ). slice_index xs k < length out) (sym same) (went.within k (let n : k < length places = subst (λ (xs : List ℕ). k < length xs) same lt in omega (arith, n, count)))
+    subst (λ (xs : List ℕ). slice_index xs k < length out) (sym same) (went.within k (let n : k < length places = subst (λ (xs : List ℕ). k < length xs) same lt in omega (arith, n, count)) tt)
 
-pub few_so_far : (inputs i : ℕ) (list out : List Node) (places : List ℕ) → i ≤ length list → Went inputs (take i list) out places → length out ≤ i
-few_so_far inputs i list out places le went = let size : length (take i list) ≡ i = length-take-le i list le in let f = went.fewer in omega (arith, f, size)
+pub few_so_far : (P : ℕ → Type 0) (inputs i : ℕ) (list out : List Node) (places : List ℕ) → i ≤ length list → Went inputs P (take i list) out places → length out ≤ i
+few_so_far P inputs i list out places le went = let size : length (take i list) ≡ i = length-take-le i list le in let f = went.fewer in omega (arith, f, size)
 
-pub went_turn : (nodes : Nodes) (list out after : List Node) (places lent places' : List ℕ) (i number : ℕ) (x : Node) → AreWellFormed nodes → list ≡ nodes.list → i < length list → x ≡ get_or list i x → lent ≡ places
-    → ((inputs : ℕ) (old : List Node) → Went inputs old out lent → IsNodeOf inputs (length old) x → Went inputs (old ++ x ∷ []) after (lent ++ number ∷ []))
-    → places' ≡ places ++ number ∷ [] → Went nodes.inputs (take i list) out places → Went nodes.inputs (take (i + 1) list) after places'
-went_turn nodes list out after places lent places' i number x formed e lt is same step more went =
-    subst (λ (old : List Node). Went nodes.inputs old after places') (sym (take_more list i x lt ∙ ap (λ (y : Node). take i list ++ y ∷ []) (sym is)))
-        (subst (λ (ps : List ℕ). Went nodes.inputs (take i list ++ x ∷ []) after ps) (ap (λ (ps : List ℕ). ps ++ number ∷ []) same ∙ sym more)
-            (step nodes.inputs (take i list) (subst (λ (ps : List ℕ). Went nodes.inputs (take i list) out ps) (sym same) went) (node_of nodes list i x formed e lt is)))
+pub went_turn : (P : ℕ → Type 0) (nodes : Nodes) (list out after : List Node) (places lent places' : List ℕ) (i number : ℕ) (x : Node) → AreWellFormed nodes → list ≡ nodes.list → i < length list → x ≡ get_or list i x → lent ≡ places
+    → ((inputs : ℕ) (old : List Node) → Went inputs P old out lent → IsNodeOf inputs (length old) x → Went inputs P (old ++ x ∷ []) after (lent ++ number ∷ []))
+    → places' ≡ places ++ number ∷ [] → Went nodes.inputs P (take i list) out places → Went nodes.inputs P (take (i + 1) list) after places'
+went_turn P nodes list out after places lent places' i number x formed e lt is same step more went =
+    subst (λ (old : List Node). Went nodes.inputs P old after places') (sym (take_more list i x lt ∙ ap (λ (y : Node). take i list ++ y ∷ []) (sym is)))
+        (subst (λ (ps : List ℕ). Went nodes.inputs P (take i list ++ x ∷ []) after ps) (ap (λ (ps : List ℕ). ps ++ number ∷ []) same ∙ sym more)
+            (step nodes.inputs (take i list) (subst (λ (ps : List ℕ). Went nodes.inputs P (take i list) out ps) (sym same) went) (node_of nodes list i x formed e lt is)))
 
-pub went_start : (inputs : ℕ) (list out : List Node) (places : List ℕ) → out ≡ [] → places ≡ [] → Went inputs (take 0 list) out places
-went_start inputs list out places no_nodes no_places =
-    subst (λ (ps : List ℕ). Went inputs [] out ps) (sym no_places) (subst (λ (xs : List Node). Went inputs [] xs []) (sym no_nodes) (went_none inputs))
+pub went_start : (P : ℕ → Type 0) (inputs : ℕ) (list out : List Node) (places : List ℕ) → out ≡ [] → places ≡ [] → Went inputs P (take 0 list) out places
+went_start P inputs list out places no_nodes no_places =
+    subst (λ (ps : List ℕ). Went inputs P [] out ps) (sym no_places) (subst (λ (xs : List Node). Went inputs P [] xs []) (sym no_nodes) (went_none inputs P))
 
-pub went_end : (nodes made : Nodes) (list : List Node) (places lent : List ℕ) (i : ℕ) → AreWellFormed nodes → list ≡ nodes.list → length list ≤ i → Went nodes.inputs (take i list) made.list places → lent ≡ places
+pub went_end : (P : ℕ → Type 0) (nodes made : Nodes) (list : List Node) (places lent : List ℕ) (i : ℕ) → AreWellFormed nodes → list ≡ nodes.list → length list ≤ i → Went nodes.inputs P (take i list) made.list places → P nodes.fails → lent ≡ places
     → made.inputs ≡ nodes.inputs → made.fails ≡ slice_index lent nodes.fails → IsFoldOf nodes made
-went_end nodes made list places lent i formed e le went same inputs fails =
-    went_all nodes made places formed (subst (λ (old : List Node). Went nodes.inputs old made.list places) (take_all i list le ∙ e) went) inputs (fails ∙ ap (λ (ps : List ℕ). slice_index ps nodes.fails) same)
+went_end P nodes made list places lent i formed e le went needed same inputs fails =
+    went_all nodes made P places formed (subst (λ (old : List Node). Went nodes.inputs P old made.list places) (take_all i list le ∙ e) went) needed inputs (fails ∙ ap (λ (ps : List ℕ). slice_index ps nodes.fails) same)
 
-pub fails_within : (nodes : Nodes) (list out : List Node) (places lent : List ℕ) (i : ℕ) → AreWellFormed nodes → list ≡ nodes.list → length list ≤ i → Went nodes.inputs (take i list) out places → lent ≡ places → nodes.fails < length lent
-fails_within nodes list out places lent i formed e le went same =
+pub fails_within : (P : ℕ → Type 0) (nodes : Nodes) (list out : List Node) (places lent : List ℕ) (i : ℕ) → AreWellFormed nodes → list ≡ nodes.list → length list ≤ i → Went nodes.inputs P (take i list) out places → lent ≡ places → nodes.fails < length lent
+fails_within P nodes list out places lent i formed e le went same =
     let size = went.count ∙ ap (λ (xs : List Node). length xs) (take_all i list le ∙ e) in
     let last = formed.fails in
     let n = ap (λ (xs : List ℕ). length xs) same in

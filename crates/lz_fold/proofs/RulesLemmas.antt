@@ -1,5 +1,5 @@
 -- Each rule: a word that it rests on, and that the node folds to what it says.
-use Rattle.std.proofs.Common.{◌≡◌, ℕ, zero, suc, ◌+◌, ◌-◌, ◌*◌, ◌%◌, ◌<◌, ◌≤◌, ◌⊎◌, inl, inr, Bool, true, false, not, ◌&&◌, cond, List, length, Option, None, Some, eqb, ltb, refl, sym, ◌∙◌, ap, ap₂, subst, arith, ℤ, pos, negsuc}
+use Rattle.std.proofs.Common.{◌≡◌, ℕ, ◌+◌, ◌-◌, ◌*◌, ◌%◌, ◌<◌, ◌≤◌, ◌⊎◌, inl, inr, Bool, true, false, not, ◌&&◌, cond, List, Option, Some, eqb, refl, sym, ◌∙◌, ap, subst, arith, ℤ, pos, negsuc}
 use Rattle.std.specs.Prelude.{slice_index, int_lt, bit_and, bit_or, bit_xor}
 use Rattle.std.specs.Int.Bits.{and_zero_l, and_zero_r, and_self, and_mask, and_comm, or_self, or_zero_l, or_zero_r, xor_self, xor_zero_l, xor_zero_r}
 use Rattle.std.proofs.lemmas.Bool.{le-ltb, eq-eqb}
@@ -9,12 +9,9 @@ use Rattle.lz_base.specs.declared.operator.Binary.{Binary}
 use Rattle.lz_base.specs.declared.operator.Binary.TheVariants.{Mul, Div, Rem, Add, Sub, Shl, Shr, Lt, Gt, Le, Ge, Eq, Ne, BitAnd, BitXor, BitOr, Both, Either}
 use Rattle.lz_base.specs.declared.word.IntType.{IntType}
 use Rattle.lz_base.specs.Words.{value_bound, signed, is_true, truth, unary_value, binary_value}
-use Rattle.lz_base.proofs.WordsLemmas.{unary_word, binary_word}
 use Rattle.lz_flat.specs.Weight.{unary_number, binary_number}
 use Rattle.lz_ssa.specs.declared.node.Node.{Node}
 use Rattle.lz_ssa.specs.declared.node.Node.TheVariants as nodes
-use Rattle.lz_ssa.specs.NodeValues.{node_value, IsNodeOf}
-use Rattle.lz_ssa.specs.NodeWeight.{node_number}
 use Rattle.lz_fold.specs.declared.rules.Folded.{Folded}
 use Rattle.lz_fold.specs.declared.rules.Folded.TheVariants.{Same, New}
 use Rattle.lz_fold.specs.Tables.{right_unit, left_unit, absorbs, of_equals, keeps_equals}

@@ -1,5 +1,5 @@
 -- Inner: what a node folds to, and when the nodes of one list are those of another.
-use Rattle.std.specs.Prelude.{◌≡◌, ℕ, suc, ◌+◌, ◌<◌, ◌≤◌, List, [], ◌∷◌, ◌++◌, length, slice_index, Option, None, Some, ⊤}
+use Rattle.std.specs.Prelude.{◌≡◌, ℕ, ◌<◌, ◌≤◌, Bool, true, false, List, [], ◌∷◌, ◌++◌, length, slice_index, slice_index_or, slice_set, Option, None, Some, ⊤}
 use Rattle.lz_base.specs.Words.{value_bound}
 use Rattle.lz_ssa.specs.declared.node.Node.{Node}
 use Rattle.lz_ssa.specs.declared.node.Node.TheVariants.{Constant, Input, Unary, Binary, Convert, Choose}
@@ -64,14 +64,18 @@ pub record FoldsBehind (out : List Node) (node : Node) (folded : Folded) : Type 
 
 -- ---- the nodes so far
 
+-- each operand is one of these
+abbrev pub OperandsAre : (ℕ → Type 0) → Node → Type 0
+OperandsAre P (Constant value) = ⊤
+OperandsAre P (Input number kind) = ⊤
+OperandsAre P (Unary op kind of) = P of
+OperandsAre P (Binary op kind left right) = P left × P right
+OperandsAre P (Convert from to of) = P of
+OperandsAre P (Choose test chosen other) = P test × P chosen × P other
+
 -- the operands are some of so many nodes
 abbrev pub Operands : ℕ → Node → Type 0
-Operands before (Constant value) = ⊤
-Operands before (Input number kind) = ⊤
-Operands before (Unary op kind of) = of < before
-Operands before (Binary op kind left right) = (left < before) × (right < before)
-Operands before (Convert from to of) = of < before
-Operands before (Choose test chosen other) = (test < before) × (chosen < before) × (other < before)
+Operands before node = OperandsAre (λ k. k < before) node
 
 -- the node with its operands where they went
 abbrev pub renamed : List ℕ → Node → Node
@@ -91,15 +95,47 @@ abbrev pub IsPlaced : List Node → List Node → Folded → ℕ → Type 0
 IsPlaced before after (Same node) number = (after ≡ before) × (number ≡ node)
 IsPlaced before after (New node) number = (after ≡ before ++ node ∷ []) × (number ≡ length before)
 
--- Each node of the old list went to a place of the new one, where it has the same word on all inputs.
-pub record Went (inputs : ℕ) (old new : List Node) (places : List ℕ) : Type 0 where
+-- Each of these nodes of the old list went to a place of the new one, where it has the same word on all inputs.
+pub record Went (inputs : ℕ) (P : ℕ → Type 0) (old new : List Node) (places : List ℕ) : Type 0 where
   pub count : length places ≡ length old
   pub formed : AreNodesFrom inputs 0 new
-  pub within : (k : ℕ) → k < length old → slice_index places k < length new
-  pub same : (input : ℕ → ℕ) → ((i : ℕ) → input i < value_bound) → (k : ℕ) → k < length old
+  pub within : (k : ℕ) → k < length old → P k → slice_index places k < length new
+  pub same : (input : ℕ → ℕ) → ((i : ℕ) → input i < value_bound) → (k : ℕ) → k < length old → P k
       → slice_index (values_of input new) (slice_index places k) ≡ slice_index (values_of input old) k
   pub fewer : length new ≤ length old
   pub lighter : nodes_weight new ≤ nodes_weight old
+
+-- all of them
+abbrev pub AnyNode : ℕ → Type 0
+AnyNode k = ⊤
+
+-- ---- the nodes that are needed
+
+-- a node is needed, by flags
+abbrev pub IsNeeded : List Bool → ℕ → Type 0
+IsNeeded flags k = slice_index_or flags k false ≡ true
+
+-- the flags with those of the operands of a node
+abbrev pub needs : Node → List Bool → List Bool
+needs (Constant value) flags = flags
+needs (Input number kind) flags = flags
+needs (Unary op kind of) flags = slice_set flags of true
+needs (Binary op kind left right) flags = slice_set (slice_set flags left true) right true
+needs (Convert from to of) flags = slice_set flags of true
+needs (Choose test chosen other) flags = slice_set (slice_set (slice_set flags test true) chosen true) other true
+
+-- from this node on, the operands of a needed one are needed
+abbrev pub IsClosedFrom : ℕ → List Node → List Bool → Type 0
+IsClosedFrom at list flags = (i : ℕ) (node : Node) → at ≤ i → i < length list → node ≡ slice_index_or list i node → IsNeeded flags i → OperandsAre (IsNeeded flags) node
+
+-- the flags of one list are flags of another too
+abbrev pub NeedsMore : List Bool → List Bool → Type 0
+NeedsMore old new = (k : ℕ) → IsNeeded old k → IsNeeded new k
+
+-- the nodes with one more, if it is needed
+abbrev pub kept : Bool → List ℕ → Node → List Node → List Node
+kept true places node before = before ++ renamed places node ∷ []
+kept false places node before = before
 
 -- ---- the whole
 

@@ -1,8 +1,11 @@
-//! Nodes folded: what is constant is computed, and what a node comes to already is not made again.
+//! Nodes folded: what is constant is computed, what a node comes to already is not made again, and what the check does
+//! not rest on is left out.
 #![tactic(auto)]
 
+mod cone;
 mod rules;
 mod tables;
 mod up;
+mod whole;
 
-pub use up::fold;
+pub use whole::fold;

@@ -1,7 +1,7 @@
 ghost use Rattle.std.specs.Prelude.{◌≡◌, ◌<◌, ◌^◌, ℕ, List, [], ◌∷◌, ◌++◌, length, slice_index, IfOk};
 ghost use Rattle.lz_ssa.specs.declared.node.Node.{Node};
 ghost use Rattle.lz_ssa.specs.NodeValues.{values_of, IsNodeOf, AreWellFormed};
-ghost use Rattle.lz_fold.specs.Folding.{IsKnown, IsWordIfKnown, FoldsBehind, Operands, renamed, AreNodes, IsPlaced, Went, IsFoldOf};
+ghost use Rattle.lz_fold.specs.Folding.{IsKnown, IsWordIfKnown, FoldsBehind, Operands, renamed, AreNodes, IsPlaced, AnyNode, Went, IsFoldOf};
 
 use crate::rules::{Folded, fold_binary, fold_choice, fold_unary};
 use lz_base::{Memory, Sequence, Value};
@@ -23,7 +23,7 @@ fn known(out: &[Node], number: u32) -> Option<Value>
 }
 
 /// A node with its operands where they went.
-fn rename(places: &[u32], node: Node) -> Node
+pub fn rename(places: &[u32], node: Node) -> Node
     requires { Operands (length places.now) node }
     ensures { result ≡ renamed places.now node }
 {
@@ -100,16 +100,15 @@ fn fold_next(out: &mut NodeList, places: &[u32], node: Node) -> Result<u32, Memo
     requires few { length out.old < 2 ^ 32 }
     requires operands { Operands (length places.now) node }
     requires within { (k : ℕ) → k < length places.now → slice_index places.now k < length out.old }
-    ensures { IfOk result (λ number. (inputs : ℕ) (old : List Node) → Went inputs old out.old places.now → IsNodeOf inputs (length old) node → Went inputs (old ++ node ∷ []) out.new (places.now ++ number ∷ [])) }
+    ensures { IfOk result (λ number. (inputs : ℕ) (old : List Node) → Went inputs AnyNode old out.old places.now → IsNodeOf inputs (length old) node → Went inputs AnyNode (old ++ node ∷ []) out.new (places.now ++ number ∷ [])) }
 {
     let node = rename(places, node);
     let folded = fold_node(out.items(), node);
     place(out, folded)
 }
 
-/// Folds nodes: what is constant is computed, and what a node comes to already is not made again. The work is linear in
-/// the nodes. `fails` has the same word on all inputs, which keep their numbers.
-pub fn fold(alloc: Global, nodes: &Nodes) -> Result<Nodes, Memory>
+/// Folds nodes from the lowest up.
+pub fn fold_up(alloc: Global, nodes: &Nodes) -> Result<Nodes, Memory>
     requires formed { AreWellFormed nodes.now }
     requires few { length nodes.now.list < 2 ^ 32 }
     ensures { IfOk result (λ made. IsFoldOf nodes.now made) }

@@ -1,5 +1,5 @@
 use Rattle.std.proofs.Common.{sym, ◌∙◌}
-use Rattle.lz_fold.proofs.RulesLemmas.{folds_right_unit, folds_left_unit}
+use Rattle.lz_fold.proofs.RulesLemmas.{folds_right_unit}
 use Rattle.lz_fold.proofs.rules.fold_binary.Goals as goal
 
 pub returns-then-is_word : goal.returns-then-is_word

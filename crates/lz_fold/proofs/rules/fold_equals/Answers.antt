@@ -1,5 +1,5 @@
 use Rattle.std.proofs.Common.{sym, ◌∙◌}
-use Rattle.lz_fold.proofs.RulesLemmas.{folds_of_equals, folds_keeps_equals}
+use Rattle.lz_fold.proofs.RulesLemmas.{folds_keeps_equals}
 use Rattle.lz_fold.proofs.rules.fold_equals.Goals as goal
 
 pub returns-then-keeps_equals : goal.returns-then-keeps_equals

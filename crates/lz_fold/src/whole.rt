@@ -1,0 +1,20 @@
+ghost use Rattle.std.specs.Prelude.{◌<◌, ◌^◌, length, IfOk};
+ghost use Rattle.lz_ssa.specs.NodeValues.{AreWellFormed};
+ghost use Rattle.lz_fold.specs.Folding.{IsFoldOf};
+
+use crate::cone::keep_cone;
+use crate::up::fold_up;
+use lz_base::Memory;
+use lz_ssa::Nodes;
+use std::alloc::Global;
+
+/// Folds nodes: what is constant is computed, what a node comes to already is not made again, and the nodes alone stay on
+/// which `fails` rests. It has the same word on all inputs, which keep their numbers. The work is linear in the nodes.
+pub fn fold(alloc: Global, nodes: &Nodes) -> Result<Nodes, Memory>
+    requires formed { AreWellFormed nodes.now }
+    requires few { length nodes.now.list < 2 ^ 32 }
+    ensures { IfOk result (λ made. IsFoldOf nodes.now made) }
+{
+    let folded = fold_up(alloc, nodes)?;
+    keep_cone(alloc, &folded)
+}
