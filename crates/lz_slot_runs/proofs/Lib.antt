@@ -1,0 +1,4 @@
+pub mod AwakeLemmas
+pub mod StoreLawLemmas
+pub mod NamesLemmas
+pub mod ToThreadsLemmas
