@@ -2,3 +2,4 @@ pub mod AwakeLemmas
 pub mod StoreLawLemmas
 pub mod NamesLemmas
 pub mod ToThreadsLemmas
+pub mod PartsLemmas
