@@ -121,3 +121,8 @@ new_start k v made h = by (nat_lt (last_of 0 made) k) refl (is_awake made k) ref
 pub rises_on : (top low k : ℕ) (made : List ℕ) → RisesTo top low made → last_of low made < k → k < top → RisesTo top low (made ++ k ∷ [])
 rises_on top low k [] r lt below = (lt, below, tt)
 rises_on top low k (j ∷ js) r lt below = (r.0, r.1, rises_on top j k js r.2 lt below)
+
+-- at first no slot but 0 is made
+pub none_awake : (k : ℕ) → is_awake [] (suc k) ≡ false
+unfolding place_in
+none_awake k = refl

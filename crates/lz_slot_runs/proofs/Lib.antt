@@ -3,3 +3,4 @@ pub mod StoreLawLemmas
 pub mod NamesLemmas
 pub mod ToThreadsLemmas
 pub mod PartsLemmas
+pub mod ThereLemmas

@@ -83,7 +83,7 @@ grown_rises top None made r may below = r
 grown_rises top (Some s) made r may below = rises_on top 0 s.thread made r (new_start s.thread s.argument made may).0 (below s refl)
 
 -- a creation that is named well
-named_start : (top : ℕ) (f : ℕ → ℕ) (a : Action) (s : actions.Start) → IsNamedWell top f a → started_by a ≡ Some s → (f s.thread ≡ suc s.routine) × (f s.thread < top)
+pub named_start : (top : ℕ) (f : ℕ → ℕ) (a : Action) (s : actions.Start) → IsNamedWell top f a → started_by a ≡ Some s → (f s.thread ≡ suc s.routine) × (f s.thread < top)
 named_start top f Loc s h e = absurd cc
 named_start top f (Input v) s h e = absurd cc
 named_start top f (Check v kind) s h e = absurd cc
