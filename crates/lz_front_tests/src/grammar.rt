@@ -6,6 +6,7 @@ use lz_expr_tests::letters::tokens_of;
 use lz_grammar::{read_params, read_statement};
 use lz_tree::{Declarator, Expr, First, Objects, Param, Stmt, TypeName};
 use std::alloc::{AllocError, Global};
+use std::process::Abort;
 use std::test::*;
 
 /// The height that a program may have.
@@ -249,9 +250,36 @@ fn params_answer(alloc: Global, letters: &[u8]) -> Result<String, Fail> {
     Ok(told(alloc, letters.len(), read)?)
 }
 
+/// What a row's letters are, what is answered for them, and why.
+type Row = (&'static str, &'static str, &'static str);
+
+/// Each row's answer for a statement.
+fn statements_agree(rt: &impl Abort, alloc: Global, rows: &[Row]) -> Result<(), Fail> {
+    for (letters, wanted, why) in rows {
+        assert_eq!(rt;
+            statement_answer(alloc, letters.as_bytes(), HEIGHT)?.as_str(),
+            *wanted,
+            "{letters}: {why}"
+        );
+    }
+    Ok(())
+}
+
+/// Each row's answer for parameters.
+fn params_agree(rt: &impl Abort, alloc: Global, rows: &[Row]) -> Result<(), Fail> {
+    for (letters, wanted, why) in rows {
+        assert_eq!(rt;
+            params_answer(alloc, letters.as_bytes())?.as_str(),
+            *wanted,
+            "{letters}: {why}"
+        );
+    }
+    Ok(())
+}
+
 #[test]
 fn statements(rt: HostRuntime) -> Result<(), Fail> {
-    for (letters, wanted, why) in [
+    let rows = [
         (";", "(;) 1", "nothing"),
         ("a;", "(a;) 2", "an expression"),
         ("a=1;", "(=;) 4", "an assignment"),
@@ -302,19 +330,13 @@ fn statements(rt: HostRuntime) -> Result<(), Fail> {
         ("E;", "no 0", "`else` begins nothing"),
         ("Da;W(b)", "no 7", "a `do` ends in `;`"),
         ("", "no 0", "nothing at all"),
-    ] {
-        assert_eq!(rt;
-            statement_answer(rt.alloc(), letters.as_bytes(), HEIGHT)?.as_str(),
-            wanted,
-            "{letters}: {why}"
-        );
-    }
-    Ok(())
+    ];
+    statements_agree(&rt, rt.alloc(), &rows)
 }
 
 #[test]
 fn declarations(rt: HostRuntime) -> Result<(), Fail> {
-    for (letters, wanted, why) in [
+    let rows = [
         ("Na;", "(1N 2a[-]) 3", "one object"),
         ("Na,b,c;", "(1N 2a[-] 4b[-] 6c[-]) 7", "three of one type"),
         ("ULLNa;", "(1ULLN 5a[-]) 6", "a type of four words"),
@@ -338,19 +360,13 @@ fn declarations(rt: HostRuntime) -> Result<(), Fail> {
         ("Na,;", "no 3", "no comma behind the last object"),
         ("N;", "no 1", "at least one object"),
         ("Na=;", "no 3", "no initializer"),
-    ] {
-        assert_eq!(rt;
-            statement_answer(rt.alloc(), letters.as_bytes(), HEIGHT)?.as_str(),
-            wanted,
-            "{letters}: {why}"
-        );
-    }
-    Ok(())
+    ];
+    statements_agree(&rt, rt.alloc(), &rows)
 }
 
 #[test]
 fn parameters(rt: HostRuntime) -> Result<(), Fail> {
-    for (letters, wanted, why) in [
+    let rows = [
         (")", " 1", "none"),
         ("V)", "void 2", "none by a word"),
         ("Na)", "(1Na) 3", "one"),
@@ -360,14 +376,8 @@ fn parameters(rt: HostRuntime) -> Result<(), Fail> {
         ("Na,)", "no 3", "no comma behind the last"),
         ("a)", "no 0", "a type first"),
         ("Nab)", "no 2", "one name each"),
-    ] {
-        assert_eq!(rt;
-            params_answer(rt.alloc(), letters.as_bytes())?.as_str(),
-            wanted,
-            "{letters}: {why}"
-        );
-    }
-    Ok(())
+    ];
+    params_agree(&rt, rt.alloc(), &rows)
 }
 
 /// The letters so often, and then one that can't stand.
@@ -378,13 +388,37 @@ fn cut_off(alloc: Global, letters: &[u8]) -> Result<Vec<u8>, AllocError> {
     Ok(cut)
 }
 
+/// Letters that are cut off before each of their tokens: the token that is put there is refused, but where a statement
+/// is whole before it.
+fn cut_everywhere(rt: &impl Abort, alloc: Global, letters: &str, whole: usize) -> Result<(), Fail> {
+    let bytes = letters.as_bytes();
+    for at in 0..bytes.len() {
+        let cut = cut_off(alloc, &bytes[..at])?;
+        let answer = statement_answer(alloc, &cut, HEIGHT)?;
+        if at != whole {
+            let wanted = format!(in alloc; "no {at}")?;
+            assert_eq!(rt; answer.as_str(), wanted.as_str(), "{letters} cut at {at}");
+        } else {
+            assert_eq!(rt; answer.as_str(), "(1Ia(;)) 5", "{letters} cut at {at}");
+        }
+    }
+    Ok(())
+}
+
+/// The same of each row, which has its letters and the token before which a statement is whole.
+fn all_cut_everywhere(rt: &impl Abort, alloc: Global, rows: &[(&str, usize)]) -> Result<(), Fail> {
+    for (letters, whole) in rows {
+        cut_everywhere(rt, alloc, letters, *whole)?;
+    }
+    Ok(())
+}
+
 /// Each kind of statement, cut off before each of its tokens: the token that is put there is refused. An `if` that
 /// is cut off behind its first statement is whole.
 #[test]
 fn cuts(rt: HostRuntime) -> Result<(), Fail> {
-    let alloc = rt.alloc();
-    for (letters, whole) in [
-        (";", 9),
+    let rows = [
+        (";", 9usize),
         ("a=1;", 9),
         ("{a;}", 9),
         ("Na[1]={1,b,},c;", 99),
@@ -397,20 +431,8 @@ fn cuts(rt: HostRuntime) -> Result<(), Fail> {
         ("C;", 9),
         ("Ra;", 9),
         ("a:;", 9),
-    ] {
-        let bytes = letters.as_bytes();
-        for at in 0..bytes.len() {
-            let cut = cut_off(alloc, &bytes[..at])?;
-            let answer = statement_answer(alloc, &cut, HEIGHT)?;
-            if at != whole {
-                let wanted = format!(in alloc; "no {at}")?;
-                assert_eq!(rt; answer.as_str(), wanted.as_str(), "{letters} cut at {at}");
-            } else {
-                assert_eq!(rt; answer.as_str(), "(1Ia(;)) 5", "{letters} cut at {at}");
-            }
-        }
-    }
-    Ok(())
+    ];
+    all_cut_everywhere(&rt, rt.alloc(), &rows)
 }
 
 /// Letters so many times, others, and letters so many times again.
@@ -442,11 +464,56 @@ fn end_of(alloc: Global, letters: &[u8]) -> Result<String, Fail> {
     Ok(told(alloc, letters.len(), read)?)
 }
 
+/// Letters before, between and behind, how often those around are nested, where that ends, the refused token where they are
+/// nested once more, and why.
+type HeightRow = (
+    &'static str,
+    &'static str,
+    &'static str,
+    usize,
+    &'static str,
+    &'static str,
+    &'static str,
+);
+
+/// Compares where the nested letters of a row end.
+fn compare_height(
+    rt: &impl Abort,
+    alloc: Global,
+    row: &HeightRow,
+    times: usize,
+    wanted: &str,
+) -> Result<(), Fail> {
+    let (front, middle, back, _, _, _, why) = row;
+    let letters = nested(
+        alloc,
+        front.as_bytes(),
+        middle.as_bytes(),
+        back.as_bytes(),
+        times,
+    )?;
+    let answer = end_of(alloc, &letters)?;
+    assert_eq!(rt;
+        answer.as_str(),
+        wanted,
+        "{front}{middle}{back} {times} times: {why}"
+    );
+    Ok(())
+}
+
+/// Compares each row as it is, and nested once more.
+fn heights_agree(rt: &impl Abort, alloc: Global, rows: &[HeightRow]) -> Result<(), Fail> {
+    for row in rows {
+        compare_height(rt, alloc, row, row.3, row.4)?;
+        compare_height(rt, alloc, row, row.3.saturating_add(1), row.5)?;
+    }
+    Ok(())
+}
+
 /// The highest statement of each kind is read, and the next higher one refused where its height shows.
 #[test]
 fn heights(rt: HostRuntime) -> Result<(), Fail> {
-    let alloc = rt.alloc();
-    for (front, middle, back, times, ends, refused, why) in [
+    let rows = [
         (
             "{",
             "",
@@ -519,22 +586,6 @@ fn heights(rt: HostRuntime) -> Result<(), Fail> {
             "no 398",
             "a label is higher than its statement",
         ),
-    ] {
-        for (times, wanted) in [(times, ends), (times.saturating_add(1), refused)] {
-            let letters = nested(
-                alloc,
-                front.as_bytes(),
-                middle.as_bytes(),
-                back.as_bytes(),
-                times,
-            )?;
-            let answer = end_of(alloc, &letters)?;
-            assert_eq!(rt;
-                answer.as_str(),
-                wanted,
-                "{front}{middle}{back} {times} times: {why}"
-            );
-        }
-    }
-    Ok(())
+    ];
+    heights_agree(&rt, rt.alloc(), &rows)
 }
