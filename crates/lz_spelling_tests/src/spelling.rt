@@ -515,6 +515,20 @@ fn compare(
     Ok(())
 }
 
+/// Compares the tokens of each row's text with this before it and this behind it.
+fn compare_rows(
+    rt: &impl Abort,
+    alloc: Global,
+    before: &str,
+    rows: &[(&str, &str)],
+    behind: &str,
+) -> Result<(), Fail> {
+    for row in rows {
+        compare(rt, alloc, before, *row, behind)?;
+    }
+    Ok(())
+}
+
 /// Texts of external declarations, and the line of the grammar.
 const EXTERNALS: [(&str, &str); 41] = [
     (
@@ -670,14 +684,7 @@ const EXPRESSIONS: [(&str, &str); 57] = [
 #[test]
 fn trees_to_tokens(rt: HostRuntime) -> Result<(), Fail> {
     let alloc = rt.alloc();
-    for row in EXTERNALS {
-        compare(&rt, alloc, "", row, "")?;
-    }
-    for row in STATEMENTS {
-        compare(&rt, alloc, "int f() { ", row, " }")?;
-    }
-    for row in EXPRESSIONS {
-        compare(&rt, alloc, "int f() { ", row, "; }")?;
-    }
-    Ok(())
+    compare_rows(&rt, alloc, "", &EXTERNALS, "")?;
+    compare_rows(&rt, alloc, "int f() { ", &STATEMENTS, " }")?;
+    compare_rows(&rt, alloc, "int f() { ", &EXPRESSIONS, "; }")
 }
