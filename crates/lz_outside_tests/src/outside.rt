@@ -9,6 +9,7 @@ use lz_outside::{
 };
 use std::alloc::Global;
 use std::fs;
+use std::process::Abort;
 use std::test::Fail;
 
 // The number of a call that never comes.
@@ -45,10 +46,31 @@ fn folder_of(
     MemoryFolder::new(alloc, files, spare, room, calls)
 }
 
+// The reason of a row, a name, a limit, the failing call, and the error that is wanted.
+type ReadRow = (&'static str, &'static str, u64, u64, Option<ReadError>);
+
+// Reads the file of each row's name from a folder in memory.
+fn rows_read(rt: &impl Abort, alloc: Global, rows: &[ReadRow]) -> Result<(), Fail> {
+    for (reason, name, limit, call, want) in rows {
+        let mut folder = folder_of(alloc, "a.c", b"int main;", 0, 0, *call)
+            .ok()
+            .ok_or("memory")?;
+        assert_eq!(rt; folder.file("a.c"), Some(b"int main;".as_slice()));
+        match read_all(alloc, &mut folder, name, *limit) {
+            Ok(bytes) => {
+                assert_eq!(rt; bytes.items(), b"int main;".as_slice(), "{reason}");
+                assert_eq!(rt; None, *want, "{reason}");
+            }
+            Err(error) => assert_eq!(rt; Some(error), *want, "{reason}"),
+        }
+    }
+    Ok(())
+}
+
 /// Whole files, a missing one, one that is longer than the limit, and a failing call.
 #[test]
 fn reads_from_memory(rt: HostRuntime) -> Result<(), Fail> {
-    let cases = [
+    let rows: [ReadRow; 6] = [
         ("shorter than the limit", "a.c", 100, NEVER, None),
         ("as long as the limit", "a.c", 9, NEVER, None),
         (
@@ -74,20 +96,7 @@ fn reads_from_memory(rt: HostRuntime) -> Result<(), Fail> {
             Some(ReadError::Fault),
         ),
     ];
-    for (reason, name, limit, call, want) in cases {
-        let mut folder = folder_of(rt.alloc(), "a.c", b"int main;", 0, 0, call)
-            .ok()
-            .ok_or("memory")?;
-        assert_eq!(rt; folder.file("a.c"), Some(b"int main;".as_slice()));
-        match read_all(rt.alloc(), &mut folder, name, limit) {
-            Ok(bytes) => {
-                assert_eq!(rt; bytes.items(), b"int main;".as_slice(), "{reason}");
-                assert_eq!(rt; None, want, "{reason}");
-            }
-            Err(error) => assert_eq!(rt; Some(error), want, "{reason}"),
-        }
-    }
-    Ok(())
+    rows_read(&rt, rt.alloc(), &rows)
 }
 
 // Gives and takes one byte at a time, and fails at one call.
@@ -166,22 +175,49 @@ impl Folder for Dripping {
     }
 }
 
+// The reason of a row, the failing call, a limit, and the error that is wanted.
+type DripRow = (&'static str, u64, u64, Option<ReadError>);
+
+// Reads each row's dripping file.
+fn rows_drip(rt: &impl Abort, alloc: Global, rows: &[DripRow]) -> Result<(), Fail> {
+    for (reason, call, limit, want) in rows {
+        let mut folder = make_dripping(b"drops", *call);
+        match read_all(alloc, &mut folder, "a.c", *limit) {
+            Ok(bytes) => {
+                assert_eq!(rt; bytes.items(), b"drops".as_slice(), "{reason}");
+                assert_eq!(rt; None, *want, "{reason}");
+            }
+            Err(error) => assert_eq!(rt; Some(error), *want, "{reason}"),
+        }
+    }
+    Ok(())
+}
+
 /// Short reads make the whole file, and a failure in mid-stream is no shorter file.
 #[test]
 fn reads_byte_by_byte(rt: HostRuntime) -> Result<(), Fail> {
-    let cases = [
+    let rows: [DripRow; 3] = [
         ("five reads of one byte", NEVER, 5, None),
         ("one byte too long", NEVER, 4, Some(ReadError::TooLong)),
         ("the fourth read fails", 3, 5, Some(ReadError::Fault)),
     ];
-    for (reason, call, limit, want) in cases {
-        let mut folder = make_dripping(b"drops", call);
-        match read_all(rt.alloc(), &mut folder, "a.c", limit) {
-            Ok(bytes) => {
-                assert_eq!(rt; bytes.items(), b"drops".as_slice(), "{reason}");
-                assert_eq!(rt; None, want, "{reason}");
-            }
-            Err(error) => assert_eq!(rt; Some(error), want, "{reason}"),
+    rows_drip(&rt, rt.alloc(), &rows)
+}
+
+// Writes over each row's dripping file, which fails at the row's call, and reads it again where the write is wanted to
+// succeed.
+fn rows_written_over(
+    rt: &impl Abort,
+    alloc: Global,
+    rows: &[(&str, u64, bool)],
+) -> Result<(), Fail> {
+    for (reason, call, want) in rows {
+        let mut folder = make_dripping(b"longer", *call);
+        let written = write_file(&mut folder, "a.c", b"drops");
+        assert_eq!(rt; written.is_ok(), *want, "{reason}");
+        if written.is_ok() {
+            let bytes = read_all(alloc, &mut folder, "a.c", 9).ok().ok_or("read")?;
+            assert_eq!(rt; bytes.items(), b"drops".as_slice(), "{reason}");
         }
     }
     Ok(())
@@ -190,20 +226,37 @@ fn reads_byte_by_byte(rt: HostRuntime) -> Result<(), Fail> {
 /// Short writes make the whole file, over what it held, and a failure in mid-stream is told.
 #[test]
 fn writes_byte_by_byte(rt: HostRuntime) -> Result<(), Fail> {
-    let cases = [
+    let rows = [
         ("five writes of one byte", NEVER, true),
         ("the call to begin fails", 0, false),
         ("the third write fails", 3, false),
     ];
-    for (reason, call, want) in cases {
-        let mut folder = make_dripping(b"longer", call);
-        let written = write_file(&mut folder, "a.c", b"drops");
-        assert_eq!(rt; written.is_ok(), want, "{reason}");
-        if written.is_ok() {
-            let bytes = read_all(rt.alloc(), &mut folder, "a.c", 9)
-                .ok()
-                .ok_or("read")?;
-            assert_eq!(rt; bytes.items(), b"drops".as_slice(), "{reason}");
+    rows_written_over(&rt, rt.alloc(), &rows)
+}
+
+// The reason of a row, how many further files and bytes there is room for, the failing call, and whether the write is
+// wanted to succeed.
+type WriteRow = (&'static str, u32, u64, u64, bool);
+
+// Writes a further file into each row's folder in memory.
+fn rows_written(rt: &impl Abort, alloc: Global, rows: &[WriteRow]) -> Result<(), Fail> {
+    for (reason, spare, room, call, want) in rows {
+        let mut folder = folder_of(alloc, "a.c", b"int main;", *spare, *room, *call)
+            .ok()
+            .ok_or("memory")?;
+        let written = write_file(&mut folder, "b.c", b"int x;");
+        assert_eq!(rt; written.is_ok(), *want, "{reason}");
+        assert_eq!(rt;
+            folder.file("a.c"),
+            Some(b"int main;".as_slice()),
+            "{reason}"
+        );
+        if *want {
+            assert_eq!(rt; folder.file("b.c"), Some(b"int x;".as_slice()), "{reason}");
+            let read = read_all(alloc, &mut folder, "b.c", 9);
+            assert_eq!(rt; read.is_ok(), *call == NEVER, "{reason}");
+        } else if *room == 5 {
+            assert_eq!(rt; folder.file("b.c"), Some(b"int x".as_slice()), "{reason}");
         }
     }
     Ok(())
@@ -213,7 +266,7 @@ fn writes_byte_by_byte(rt: HostRuntime) -> Result<(), Fail> {
 /// another file stays. Room that runs out in the middle, and no further file left.
 #[test]
 fn writes_to_memory_or_fails(rt: HostRuntime) -> Result<(), Fail> {
-    let cases = [
+    let rows: [WriteRow; 6] = [
         ("room for the whole text", 1, 6, NEVER, true),
         ("the call to begin fails", 1, 6, 0, false),
         ("the call to append fails", 1, 6, 1, false),
@@ -221,44 +274,21 @@ fn writes_to_memory_or_fails(rt: HostRuntime) -> Result<(), Fail> {
         ("one byte of room too little", 1, 5, NEVER, false),
         ("no further file is left", 0, 6, NEVER, false),
     ];
-    for (reason, spare, room, call, want) in cases {
-        let mut folder = folder_of(rt.alloc(), "a.c", b"int main;", spare, room, call)
-            .ok()
-            .ok_or("memory")?;
-        let written = write_file(&mut folder, "b.c", b"int x;");
-        assert_eq!(rt; written.is_ok(), want, "{reason}");
-        assert_eq!(rt;
-            folder.file("a.c"),
-            Some(b"int main;".as_slice()),
-            "{reason}"
-        );
-        if want {
-            assert_eq!(rt; folder.file("b.c"), Some(b"int x;".as_slice()), "{reason}");
-            let read = read_all(rt.alloc(), &mut folder, "b.c", 9);
-            assert_eq!(rt; read.is_ok(), call == NEVER, "{reason}");
-        } else if room == 5 {
-            assert_eq!(rt; folder.file("b.c"), Some(b"int x".as_slice()), "{reason}");
-        }
-    }
-    Ok(())
+    rows_written(&rt, rt.alloc(), &rows)
 }
 
-/// A further file's name has at most 255 bytes, a file is written over, and one that was given may have
-/// more bytes than the room.
-#[test]
-fn keeps_its_room(rt: HostRuntime) -> Result<(), Fail> {
-    let long = [b'n'; 256];
-    let cases = [
-        ("the longest name", 255, true),
-        ("one byte more than the longest name", 256, false),
-    ];
-    for (reason, count, want) in cases {
-        let name = str::from_utf8(&long[..count]).ok().ok_or("text")?;
-        let mut folder = folder_of(rt.alloc(), "a.c", b"int main;", 1, 4, NEVER)
+// A further file of each row's name, and then what a given file takes.
+fn rows_of_names(rt: &impl Abort, alloc: Global, rows: &[(&str, &str, bool)]) -> Result<(), Fail> {
+    for (reason, name, want) in rows {
+        let mut folder = folder_of(alloc, "a.c", b"int main;", 1, 4, NEVER)
             .ok()
             .ok_or("memory")?;
-        assert_eq!(rt; folder.append_piece(name, b"int").is_ok(), want, "{reason}");
-        assert_eq!(rt; folder.file(name).is_some(), want, "{reason}");
+        assert_eq!(rt;
+            folder.append_piece(name, b"int").is_ok(),
+            *want,
+            "{reason}"
+        );
+        assert_eq!(rt; folder.file(name).is_some(), *want, "{reason}");
         assert_eq!(rt; folder.append_piece("a.c", b"x"), Err(Failed));
         assert_eq!(rt; folder.append_piece("a.c", b""), Ok(0));
         assert_eq!(rt; folder.begin("a.c"), Ok(()));
@@ -268,25 +298,45 @@ fn keeps_its_room(rt: HostRuntime) -> Result<(), Fail> {
     Ok(())
 }
 
+/// A further file's name has at most 255 bytes, a file is written over, and one that was given may have
+/// more bytes than the room.
+#[test]
+fn keeps_its_room(rt: HostRuntime) -> Result<(), Fail> {
+    let long = [b'n'; 256];
+    let longest = str::from_utf8(&long[..255]).ok().ok_or("text")?;
+    let longer = str::from_utf8(&long).ok().ok_or("text")?;
+    let rows = [
+        ("the longest name", longest, true),
+        ("one byte more than the longest name", longer, false),
+    ];
+    rows_of_names(&rt, rt.alloc(), &rows)
+}
+
+// The reason of a row, the room, the failing call, and what is wanted to be written.
+type SinkRow = (&'static str, u64, u64, &'static [u8]);
+
+// Writes the text into each row's sink.
+fn rows_told(rt: &impl Abort, alloc: Global, text: &[u8], rows: &[SinkRow]) -> Result<(), Fail> {
+    for (reason, room, call, want) in rows {
+        let calls = calls_of(alloc, *call).ok().ok_or("memory")?;
+        let mut sink = MemorySink::new(alloc, *room, calls).ok().ok_or("memory")?;
+        let written = write_all(&mut sink, text);
+        assert_eq!(rt; sink.written(), *want, "{reason}");
+        assert_eq!(rt; written.is_ok(), want.len() == text.len(), "{reason}");
+    }
+    Ok(())
+}
+
 /// Ample room, too little of it, and a failing call.
 #[test]
 fn writes_to_memory(rt: HostRuntime) -> Result<(), Fail> {
     let text = b"SUCCESSFUL\n".as_slice();
-    let cases = [
+    let rows: [SinkRow; 3] = [
         ("room for the whole text", 11, NEVER, text),
         ("room for its front alone", 5, NEVER, b"SUCCE".as_slice()),
         ("the first call fails", 11, 0, b"".as_slice()),
     ];
-    for (reason, room, call, want) in cases {
-        let calls = calls_of(rt.alloc(), call).ok().ok_or("memory")?;
-        let mut sink = MemorySink::new(rt.alloc(), room, calls)
-            .ok()
-            .ok_or("memory")?;
-        let written = write_all(&mut sink, text);
-        assert_eq!(rt; sink.written(), want, "{reason}");
-        assert_eq!(rt; written.is_ok(), want.len() == text.len(), "{reason}");
-    }
-    Ok(())
+    rows_told(&rt, rt.alloc(), text, &rows)
 }
 
 /// A file of the system that is read and written over, a missing one, and the standard output.
