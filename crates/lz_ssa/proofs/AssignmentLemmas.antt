@@ -80,7 +80,7 @@ instruction_stated inputs n i guard (assumes test) p ready short is lt =
     (expression_gives inputs test g.drawn gg.grows.sound (omega (arith, words, same)) (subst (λ (k : ℕ). IsExpressionOf k test) (sym (words ∙ same)) is.1)) in
     let under = guarded_by inputs (expression_weight guard) (expression_weight test) d g t (value_in guard d) (value_in test d) gg gt in
     record {
-      weight = expression_weight guard + expression_weight test + 7;
+      weight = expression_weight guard + expression_weight test + 8;
       stated = assume_stated inputs d p.alive p.failed i guard test g t (expression_weight guard + expression_weight test) (gives_words inputs g.drawn t (value_in test d) (expression_weight test) gt ∙ words) ready.alive ready.failed under;
       weighs = omega arith;
     }
@@ -95,7 +95,7 @@ instruction_stated inputs n i guard (checks test kind line) p ready short is lt 
     (expression_gives inputs test g.drawn gg.grows.sound (omega (arith, words, same)) (subst (λ (k : ℕ). IsExpressionOf k test) (sym (words ∙ same)) is.1)) in
     let under = guarded_by inputs (expression_weight guard) (expression_weight test) d g t (value_in guard d) (value_in test d) gg gt in
     record {
-      weight = expression_weight guard + expression_weight test + 10;
+      weight = expression_weight guard + expression_weight test + 11;
       stated = check_stated inputs d p.alive p.failed i guard test kind line g t (expression_weight guard + expression_weight test) (gives_words inputs g.drawn t (value_in test d) (expression_weight test) gt ∙ words) ready.alive ready.failed under;
       weighs = omega arith;
     }

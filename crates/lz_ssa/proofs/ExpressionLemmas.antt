@@ -167,9 +167,9 @@ unary_gives inputs w d m op kind f gives =
 
 -- a conversion of a node
 convert_gives : (inputs w : ℕ) (d : Drawn) (m : With) (from to : IntType) (f : (ℕ → ℕ) → ℕ) → Gives inputs d m f w
-    → Gives inputs d (add (nodes.Convert from to m.node) m.drawn) (λ input. converted (f input) from to) (w + 1)
+    → Gives inputs d (add (nodes.Convert from to m.node) m.drawn) (λ input. converted (f input) from to) (w + 2)
 convert_gives inputs w d m from to f gives =
-    gives_then inputs d m.drawn (add (nodes.Convert from to m.node) m.drawn) (λ input. converted (f input) from to) w 1 gives.grows gives.memory
+    gives_then inputs d m.drawn (add (nodes.Convert from to m.node) m.drawn) (λ input. converted (f input) from to) w 2 gives.grows gives.memory
     (add_gives inputs m.drawn (nodes.Convert from to m.node) (λ input. converted (f input) from to) gives.grows.sound gives.within (λ input small. ap (λ (v : ℕ). converted v from to) (gives.means input small)))
 
 -- two nodes, the second made after the first
@@ -223,7 +223,7 @@ expression_gives inputs (unary op kind of) d sound short is =
     gives_as inputs d (expression_node (unary op kind of) d) (value_in (unary op kind of) d) (value_in (unary op kind of) d) (expression_weight of + unary_number op) (unary_number op + expression_weight of)
     (unary_gives inputs (expression_weight of) d (expression_node of d) op kind (value_in of d) (expression_gives inputs of d sound short is)) (λ input small. refl) (omega arith)
 expression_gives inputs (convert from to of) d sound short is =
-    gives_as inputs d (expression_node (convert from to of) d) (value_in (convert from to of) d) (value_in (convert from to of) d) (expression_weight of + 1) (1 + expression_weight of)
+    gives_as inputs d (expression_node (convert from to of) d) (value_in (convert from to of) d) (value_in (convert from to of) d) (expression_weight of + 2) (2 + expression_weight of)
     (convert_gives inputs (expression_weight of) d (expression_node of d) from to (value_in of d) (expression_gives inputs of d sound short is)) (λ input small. refl) (omega arith)
 expression_gives inputs (binary op kind left right) d sound short is =
     let l = expression_gives inputs left d sound short is.0 in

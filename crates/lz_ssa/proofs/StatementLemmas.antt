@@ -181,7 +181,7 @@ set_stated inputs d alive failed i to first guard second f w short same a b unde
     did_is
 
 -- an operator at one node
-not_gives : (inputs : ℕ) (d : Drawn) (node : ℕ) (f : (ℕ → ℕ) → ℕ) → Sound inputs d → Means inputs d node f → Gives inputs d (add (nodes.Unary unaries.Not Unsigned node) d) (λ input. not_word (f input)) 1
+not_gives : (inputs : ℕ) (d : Drawn) (node : ℕ) (f : (ℕ → ℕ) → ℕ) → Sound inputs d → Means inputs d node f → Gives inputs d (add (nodes.Unary unaries.Not Unsigned node) d) (λ input. not_word (f input)) 2
 not_gives inputs d node f sound means =
     add_gives inputs d (nodes.Unary unaries.Not Unsigned node) (λ input. not_word (f input)) sound means.within (λ input small. ap (λ (v : ℕ). not_word v) (means.is input small))
 
@@ -192,30 +192,30 @@ alive_means inputs d node within = record { within = within; is = λ input small
 -- an assumption
 pub assume_stated : (inputs : ℕ) (d : Drawn) (alive failed i : ℕ) (guard test : Expression) (g t : With) (w : ℕ) → length t.drawn.words ≡ length d.words
     → alive < length d.list → failed < length d.list → UnderGuard inputs d g t (value_in guard d) (value_in test d) w
-    → Stated inputs (record { drawn = d; alive = alive; failed = failed }) (assume_made alive failed g.node t) i (record { guard = guard; instr = assumes test }) (w + 7)
+    → Stated inputs (record { drawn = d; alive = alive; failed = failed }) (assume_made alive failed g.node t) i (record { guard = guard; instr = assumes test }) (w + 8)
 unfolding assume_made
 assume_stated inputs d alive failed i guard test g t w same a b under =
     let n : With = add (nodes.Unary unaries.Not Unsigned g.node) t.drawn in
     let gn = not_gives inputs t.drawn g.node (value_in guard d) under.grows.sound under.guard_means in
     let o : With = join binaries.Either n.node t.node n.drawn in
     let go = join_gives inputs n.drawn binaries.Either n.node t.node (λ input. not_word (value_in guard d input)) (value_in test d) gn.grows.sound
-    (means_of inputs t.drawn n (λ input. not_word (value_in guard d input)) 1 gn) (means_grows inputs t.drawn n.drawn t.node (value_in test d) 1 under.second_means gn.grows) in
-    let to_n = grows_then inputs d t.drawn n.drawn w 1 under.grows gn.grows in
-    let to_o = grows_then inputs d n.drawn o.drawn (w + 1) 3 to_n go.grows in
+    (means_of inputs t.drawn n (λ input. not_word (value_in guard d input)) 2 gn) (means_grows inputs t.drawn n.drawn t.node (value_in test d) 2 under.second_means gn.grows) in
+    let to_n = grows_then inputs d t.drawn n.drawn w 2 under.grows gn.grows in
+    let to_o = grows_then inputs d n.drawn o.drawn (w + 2) 3 to_n go.grows in
     let z : With = join binaries.Both alive o.node o.drawn in
     let gz = join_gives inputs o.drawn binaries.Both alive o.node (λ input. word_at input d alive) (λ input. either (not_word (value_in guard d input)) (value_in test d input)) go.grows.sound
-    (means_grows inputs d o.drawn alive (λ input. word_at input d alive) (w + 1 + 3) (alive_means inputs d alive a) to_o)
+    (means_grows inputs d o.drawn alive (λ input. word_at input d alive) (w + 2 + 3) (alive_means inputs d alive a) to_o)
     (means_of inputs n.drawn o (λ input. either (not_word (value_in guard d input)) (value_in test d input)) 3 go) in
-    let whole_grows = grows_then inputs d o.drawn z.drawn (w + 1 + 3) 3 to_o gz.grows in
-    let longer = grows_length inputs d z.drawn (w + 1 + 3 + 3) whole_grows in
+    let whole_grows = grows_then inputs d o.drawn z.drawn (w + 2 + 3) 3 to_o gz.grows in
+    let longer = grows_length inputs d z.drawn (w + 2 + 3 + 3) whole_grows in
     record {
-      grows = grows_most inputs d z.drawn (w + 1 + 3 + 3) (w + 7) (omega arith) whole_grows;
+      grows = grows_most inputs d z.drawn (w + 2 + 3 + 3) (w + 8) (omega arith) whole_grows;
       words = same;
       alive = gz.within;
       failed = omega (arith, longer);
       keeps = λ input small rest whole left. left_as (both (word_at input d alive) (either (not_word (value_in guard d input)) (value_in test d input))) (word_at input z.drawn z.node) (word_at input d failed) (word_at input z.drawn failed)
           (memory_of input d) (memory_of input z.drawn) input (suc i) rest whole
-          (sym (gz.means input small)) (sym (grows_keeps inputs d z.drawn (w + 1 + 3 + 3) whole_grows input failed b))
+          (sym (gz.means input small)) (sym (grows_keeps inputs d z.drawn (w + 2 + 3 + 3) whole_grows input failed b))
           (sym (gz.memory input ∙ go.memory input ∙ gn.memory input ∙ under.memory input))
           (left_assumes (word_at input d alive) (word_at input d failed) (memory_of input d) input i guard test rest whole left);
     }
@@ -223,7 +223,7 @@ assume_stated inputs d alive failed i guard test g t w same a b under =
 -- a check
 pub check_stated : (inputs : ℕ) (d : Drawn) (alive failed i : ℕ) (guard test : Expression) (kind : BreakKind) (line : ℕ) (g t : With) (w : ℕ) → length t.drawn.words ≡ length d.words
     → alive < length d.list → failed < length d.list → UnderGuard inputs d g t (value_in guard d) (value_in test d) w
-    → Stated inputs (record { drawn = d; alive = alive; failed = failed }) (check_made alive failed g.node t) i (record { guard = guard; instr = checks test kind line }) (w + 10)
+    → Stated inputs (record { drawn = d; alive = alive; failed = failed }) (check_made alive failed g.node t) i (record { guard = guard; instr = checks test kind line }) (w + 11)
 unfolding check_made
 check_stated inputs d alive failed i guard test kind line g t w same a b under =
     let r : With = join binaries.Both alive g.node t.drawn in
@@ -234,24 +234,24 @@ check_stated inputs d alive failed i guard test kind line g t w same a b under =
     let gn = not_gives inputs r.drawn t.node (value_in test d) gr.grows.sound (means_grows inputs t.drawn r.drawn t.node (value_in test d) 3 under.second_means gr.grows) in
     let x : With = join binaries.Both r.node n.node n.drawn in
     let gx = join_gives inputs n.drawn binaries.Both r.node n.node runs (λ input. not_word (value_in test d input)) gn.grows.sound
-    (means_grows inputs r.drawn n.drawn r.node runs 1 (means_of inputs t.drawn r runs 3 gr) gn.grows) (means_of inputs r.drawn n (λ input. not_word (value_in test d input)) 1 gn) in
+    (means_grows inputs r.drawn n.drawn r.node runs 2 (means_of inputs t.drawn r runs 3 gr) gn.grows) (means_of inputs r.drawn n (λ input. not_word (value_in test d input)) 2 gn) in
     let broken : (ℕ → ℕ) → ℕ = λ input. both (runs input) (not_word (value_in test d input)) in
     let to_r = grows_then inputs d t.drawn r.drawn w 3 under.grows gr.grows in
-    let to_n = grows_then inputs d r.drawn n.drawn (w + 3) 1 to_r gn.grows in
-    let to_x = grows_then inputs d n.drawn x.drawn (w + 3 + 1) 3 to_n gx.grows in
+    let to_n = grows_then inputs d r.drawn n.drawn (w + 3) 2 to_r gn.grows in
+    let to_x = grows_then inputs d n.drawn x.drawn (w + 3 + 2) 3 to_n gx.grows in
     let z : With = join binaries.Either failed x.node x.drawn in
     let gz = join_gives inputs x.drawn binaries.Either failed x.node (λ input. word_at input d failed) broken gx.grows.sound
-    (means_grows inputs d x.drawn failed (λ input. word_at input d failed) (w + 3 + 1 + 3) (alive_means inputs d failed b) to_x) (means_of inputs n.drawn x broken 3 gx) in
-    let whole_grows = grows_then inputs d x.drawn z.drawn (w + 3 + 1 + 3) 3 to_x gz.grows in
-    let longer = grows_length inputs d z.drawn (w + 3 + 1 + 3 + 3) whole_grows in
+    (means_grows inputs d x.drawn failed (λ input. word_at input d failed) (w + 3 + 2 + 3) (alive_means inputs d failed b) to_x) (means_of inputs n.drawn x broken 3 gx) in
+    let whole_grows = grows_then inputs d x.drawn z.drawn (w + 3 + 2 + 3) 3 to_x gz.grows in
+    let longer = grows_length inputs d z.drawn (w + 3 + 2 + 3 + 3) whole_grows in
     record {
-      grows = grows_most inputs d z.drawn (w + 3 + 1 + 3 + 3) (w + 10) (omega arith) whole_grows;
+      grows = grows_most inputs d z.drawn (w + 3 + 2 + 3 + 3) (w + 11) (omega arith) whole_grows;
       words = same;
       alive = omega (arith, longer);
       failed = gz.within;
       keeps = λ input small rest whole left. left_as (word_at input d alive) (word_at input z.drawn alive) (either (word_at input d failed) (broken input)) (word_at input z.drawn z.node)
           (memory_of input d) (memory_of input z.drawn) input (suc i) rest whole
-          (sym (grows_keeps inputs d z.drawn (w + 3 + 1 + 3 + 3) whole_grows input alive a)) (sym (gz.means input small))
+          (sym (grows_keeps inputs d z.drawn (w + 3 + 2 + 3 + 3) whole_grows input alive a)) (sym (gz.means input small))
           (sym (gz.memory input ∙ gx.memory input ∙ gn.memory input ∙ gr.memory input ∙ under.memory input))
           (left_checks (word_at input d alive) (word_at input d failed) (memory_of input d) input i guard test kind line rest whole left);
     }

@@ -1,11 +1,12 @@
 -- The words of nodes: those of the nodes before stay, one node more adds one word, and each is a word.
-use Rattle.std.proofs.Common.{◌≡◌, ℕ, zero, suc, ◌+◌, ◌-◌, ◌<◌, List, [], ◌∷◌, ◌++◌, length, get_or, slice_index, eqb, refl, ◌∙◌, ap, subst, arith}
+use Rattle.std.proofs.Common.{◌≡◌, ◌≢◌, ℕ, zero, suc, ◌+◌, ◌-◌, ◌<◌, List, [], ◌∷◌, ◌++◌, length, get_or, slice_index, eqb, refl, ◌∙◌, ap, subst, arith}
 use Rattle.std.proofs.lemmas.List.{length-append, get_or_append_left, get_or-append_right}
 use Rattle.lz_base.specs.Words.{value_bound}
 use Rattle.lz_base.proofs.WordsLemmas.{choose_word, unary_word, binary_word, converted_word}
 use Rattle.lz_ssa.specs.declared.node.Node.{Node}
 use Rattle.lz_ssa.specs.declared.node.Node.TheVariants.{Constant, Input, Unary, Binary, Convert, Choose}
-use Rattle.lz_ssa.specs.NodeValues.{node_value, values_from, values_of, IsNodeOf, AreNodesFrom}
+use Rattle.lz_ssa.specs.declared.node.Nodes.{Nodes}
+use Rattle.lz_ssa.specs.NodeValues.{node_value, values_from, values_of, FailsAt, IsNodeOf, AreNodesFrom, AreWellFormed, RestOnInputs}
 use Rattle.lz_ssa.specs.NodeWeight.{nodes_weight}
 
 -- nodes behind nodes
@@ -101,6 +102,34 @@ unfolding values_from AreNodesFrom
 values_words inputs before [] input words are small all = all
 values_words inputs before (x ∷ xs) input words are small all =
     values_words inputs (suc before) xs input (words ++ node_value x input words ∷ []) are.1 small (words_push words (node_value x input words) all (node_word inputs before x input words are.0 small all))
+
+-- ---- what the words rest on
+
+-- the word of a node rests on the inputs below their number alone
+value_agrees : (inputs before : ℕ) (x : Node) (a b : ℕ → ℕ) (words : List ℕ) → IsNodeOf inputs before x → ((i : ℕ) → i < inputs → a i ≡ b i) → node_value x a words ≡ node_value x b words
+value_agrees inputs before (Constant value) a b words is same = refl
+value_agrees inputs before (Input number kind) a b words is same = same number is
+value_agrees inputs before (Unary op kind of) a b words is same = refl
+value_agrees inputs before (Binary op kind left right) a b words is same = refl
+value_agrees inputs before (Convert from to of) a b words is same = refl
+value_agrees inputs before (Choose test chosen other) a b words is same = refl
+
+-- so do the words of nodes
+pub values_agree : (inputs before : ℕ) (list : List Node) (a b : ℕ → ℕ) (words : List ℕ) → AreNodesFrom inputs before list → ((i : ℕ) → i < inputs → a i ≡ b i) → values_from a words list ≡ values_from b words list
+unfolding values_from AreNodesFrom
+values_agree inputs before [] a b words are same = refl
+values_agree inputs before (x ∷ xs) a b words are same =
+    values_agree inputs (suc before) xs a b (words ++ node_value x a words ∷ []) are.1 same
+    ∙ ap (λ (v : ℕ). values_from b (words ++ v ∷ []) xs) (value_agrees inputs before x a b words are.0 same)
+
+-- THE LAW
+pub rest_on_inputs : RestOnInputs
+rest_on_inputs nodes a b well same = values_agree nodes.inputs 0 nodes.list a b [] well.list same
+
+-- so does whether the nodes fail
+pub fails_agrees : (nodes : Nodes) (a b : ℕ → ℕ) → AreWellFormed nodes → ((i : ℕ) → i < nodes.inputs → a i ≡ b i) → FailsAt nodes a → FailsAt nodes b
+fails_agrees nodes a b well same fails =
+    subst (λ (words : List ℕ). slice_index words nodes.fails ≢ 0) (rest_on_inputs nodes a b well same) fails
 
 -- ---- weights
 

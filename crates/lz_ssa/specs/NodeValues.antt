@@ -1,5 +1,5 @@
 -- Inner: the words of nodes, on inputs, and when nodes are well formed.
-use Rattle.std.specs.Prelude.{◌≢◌, ℕ, suc, ◌<◌, ◌==◌, List, [], ◌∷◌, ◌++◌, length, slice_index, if◌then◌else◌, ⊤}
+use Rattle.std.specs.Prelude.{◌≡◌, ◌≢◌, ℕ, suc, ◌<◌, ◌==◌, List, [], ◌∷◌, ◌++◌, length, slice_index, if◌then◌else◌, ⊤}
 use Rattle.lz_base.specs.Words.{value_bound, unary_value, binary_value, converted}
 use Rattle.lz_ssa.specs.declared.node.Node.{Node}
 use Rattle.lz_ssa.specs.declared.node.Node.TheVariants.{Constant, Input, Unary, Binary, Convert, Choose}
@@ -47,3 +47,9 @@ AreNodesFrom inputs before (first ∷ rest) = IsNodeOf inputs before first × Ar
 pub record AreWellFormed (nodes : Nodes) : Type 0 where
   pub list : AreNodesFrom nodes.inputs 0 nodes.list
   pub fails : nodes.fails < length nodes.list
+
+-- Two lists of inputs that agree on those that the nodes have give each node the same word.
+abbrev pub RestOnInputs : Type 0
+RestOnInputs =
+    (nodes : Nodes) (one other : ℕ → ℕ) → AreWellFormed nodes → ((i : ℕ) → i < nodes.inputs → one i ≡ other i)
+    → values_of one nodes.list ≡ values_of other nodes.list

@@ -7,11 +7,13 @@ mod decode;
 mod draft;
 mod evaluate;
 mod expression;
+mod laws;
 mod make;
 mod node;
 mod statement;
 mod write;
 
 pub use evaluate::eval;
+pub use laws::nodes_rest_on_inputs;
 pub use make::nodes;
 pub use node::{Node, NodeList, Nodes};

@@ -2,7 +2,7 @@ use lz_base::{Binary, IntType, Sequence, Unary, Value};
 
 /// A node: a word that is the value of an operator at inputs and at the words of earlier nodes, which are
 /// named by their numbers.
-#[derive(Clone, Copy, Debug, PartialEq, Eq)]
+#[derive(Clone, Copy, Debug, PartialEq, Eq, Hash)]
 pub enum Node {
     /// A fixed word.
     Constant {
