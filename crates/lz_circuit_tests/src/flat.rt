@@ -7,7 +7,7 @@ ghost use Rattle.lz_circuit_tests.specs.FlatExample.{waiting};
 
 use lz_base::{Binary, BreakKind, IntType, Memory, Sequence};
 use lz_flat::{
-    Flat, FlatExpr, FlatThread, FlatThreads, Halt, Instr, Marked, Spot, Stepped, binary_expr,
+    Flat, FlatExpr, FlatThread, FlatThreads, Instr, Marked, Spot, Stepped, binary_expr,
     choose_expr, copy_expr, copy_instr, copy_spot, flat_step,
 };
 use std::alloc::Global;
@@ -51,7 +51,7 @@ fn one_thread(alloc: Global) -> Result<Flat, Memory>
 }
 
 /// A step from a place where an instruction is visible or the code ends.
-fn step_from(flat: &Flat, place: u32, word: u64) -> Option<(Result<Stepped, Halt>, u32, u64)>
+fn step_from(flat: &Flat, place: u32, word: u64) -> Option<(Stepped, u32, u64)>
     requires { flat_program flat.now ≡ waiting }
 {
     if word > 1 || place == 1 || place > 3 {
@@ -67,28 +67,28 @@ fn step_from(flat: &Flat, place: u32, word: u64) -> Option<(Result<Stepped, Halt
 #[test]
 fn steps_of_a_thread(rt: HostRuntime) -> Result<(), Fail> {
     let flat = one_thread(rt.alloc()).ok().ok_or("memory")?;
-    let broke = Halt::Broke {
+    let broke = Stepped::Broke {
         kind: BreakKind::Assert,
         line: 7,
     };
     assert_eq!(rt;
         step_from(&flat, 0, 1),
-        Some((Ok(Stepped::Went { used: 2 }), 2, 0)),
+        Some((Stepped::Went { used: 2 }, 2, 0)),
         "up to the check"
     );
     assert_eq!(rt;
         step_from(&flat, 0, 0),
-        Some((Err(Halt::Blocked), 0, 0)),
+        Some((Stepped::Blocked, 0, 0)),
         "the word is 0"
     );
     assert_eq!(rt;
         step_from(&flat, 2, 0),
-        Some((Err(broke), 2, 0)),
+        Some((broke, 2, 0)),
         "the check of 0"
     );
     assert_eq!(rt;
         step_from(&flat, 3, 1),
-        Some((Ok(Stepped::Ended), 3, 1)),
+        Some((Stepped::Ended, 3, 1)),
         "past the end"
     );
     Ok(())
