@@ -1,3 +1,5 @@
 pub mod OpensLemmas
 pub mod TreeFrontsLemmas
 pub mod RowsLemmas
+pub mod SumLemmas
+pub mod BoundedTreesLemmas

@@ -9,23 +9,23 @@ use Rattle.lz_tree.specs.WellScoped.{Setting}
 use Rattle.lz_agree.specs.Correspondence.{SameBehaviour, Opens}
 use Rattle.lz_agree.proofs.CorrespondsLemmas.{lasts_of}
 use Rattle.lz_agree.proofs.SameLemmas.{same_refl, same_trans, same_flip, same_then, same_value, then_assoc}
-use Rattle.lz_bound.specs.BoundedTrees.{BoundedStatement, evals, fresh, clear, nothing, seq, when, frame, leave, exit, stuck, inside}
+use Rattle.lz_bound.specs.BoundedTrees.{BoundedStatement, evals, fresh, clear, nothing, seq, when, frame, leave, exit, stuck, inside, bounded_statements_of}
 use Rattle.lz_bound.specs.BoundedTraces.{Leaving, through, left, passes, bounded_trace}
 use Rattle.lz_bound.specs.CreateSites.{sites, no_bodies, tree_sites}
 use Rattle.lz_bound.specs.WellFormed.{IsTree}
-use Rattle.lz_bound.specs.Rows.{sequence, parts_of, in_rows}
+use Rattle.lz_bound.specs.Rows.{parts_of, in_rows}
 use Rattle.lz_bound.proofs.OpensLemmas.{opens_value, opens_tree}
 use Rattle.lz_bound.proofs.TreeFrontsLemmas.{fronts_bounded}
 
 -- a list after a list
-pub sequence-append : (xs ys : List BoundedStatement) → SameBehaviour (bounded_trace (sequence xs) and_then λ u. passes u (bounded_trace (sequence ys))) (bounded_trace (sequence (xs ++ ys)))
-sequence-append [] ys = same_value through (opens_tree (sequence ys))
+pub sequence-append : (xs ys : List BoundedStatement) → SameBehaviour (bounded_trace (bounded_statements_of xs) and_then λ u. passes u (bounded_trace (bounded_statements_of ys))) (bounded_trace (bounded_statements_of (xs ++ ys)))
+sequence-append [] ys = same_value through (opens_tree (bounded_statements_of ys))
 sequence-append (x ∷ xs) ys =
-    same_trans (same_flip (then_assoc (bounded_trace x) (λ u. passes u (bounded_trace (sequence xs))) (λ u. passes u (bounded_trace (sequence ys)))))
+    same_trans (same_flip (then_assoc (bounded_trace x) (λ u. passes u (bounded_trace (bounded_statements_of xs))) (λ u. passes u (bounded_trace (bounded_statements_of ys)))))
       (same_then same_refl (λ u. by u (sequence-append xs ys)))
   where
-    by : (u : Leaving) → SameBehaviour (bounded_trace (sequence xs) and_then λ u. passes u (bounded_trace (sequence ys))) (bounded_trace (sequence (xs ++ ys)))
-        → SameBehaviour (passes u (bounded_trace (sequence xs)) and_then λ u. passes u (bounded_trace (sequence ys))) (passes u (bounded_trace (sequence (xs ++ ys))))
+    by : (u : Leaving) → SameBehaviour (bounded_trace (bounded_statements_of xs) and_then λ u. passes u (bounded_trace (bounded_statements_of ys))) (bounded_trace (bounded_statements_of (xs ++ ys)))
+        → SameBehaviour (passes u (bounded_trace (bounded_statements_of xs)) and_then λ u. passes u (bounded_trace (bounded_statements_of ys))) (passes u (bounded_trace (bounded_statements_of (xs ++ ys))))
     by through ih = ih
     by (left k) ih = same_value (left k) opens_value
 
@@ -72,7 +72,7 @@ same_passes through e = e
 same_passes (left k) e = same_refl
 
 -- a list of one
-one_part : (b : BoundedStatement) → SameBehaviour (bounded_trace b) (bounded_trace (sequence (b ∷ [])))
+one_part : (b : BoundedStatement) → SameBehaviour (bounded_trace b) (bounded_trace (bounded_statements_of (b ∷ [])))
 one_part b = same_trans (same_last (fronts_bounded b)) (same_then same_refl (λ u. by u))
   where
     by : (u : Leaving) → SameBehaviour {S = Locals} (ends_with u) (passes u (ends_with through))
@@ -95,9 +95,9 @@ rows_same (inside line index len) = one_part (inside line index len)
 
 -- ---- sites and conditions
 
-sequence_sites : (xs ys : List BoundedStatement) → tree_sites (sequence (xs ++ ys)) ≡ tree_sites (sequence xs) ++ tree_sites (sequence ys)
+sequence_sites : (xs ys : List BoundedStatement) → tree_sites (bounded_statements_of (xs ++ ys)) ≡ tree_sites (bounded_statements_of xs) ++ tree_sites (bounded_statements_of ys)
 sequence_sites [] ys = refl
-sequence_sites (x ∷ xs) ys = ap (λ (zs : List ℕ). tree_sites x ++ zs) (sequence_sites xs ys) ∙ sym (append_assoc (tree_sites x) (tree_sites (sequence xs)) (tree_sites (sequence ys)))
+sequence_sites (x ∷ xs) ys = ap (λ (zs : List ℕ). tree_sites x ++ zs) (sequence_sites xs ys) ∙ sym (append_assoc (tree_sites x) (tree_sites (bounded_statements_of xs)) (tree_sites (bounded_statements_of ys)))
 
 -- its create sites are those of the tree
 pub rows_sites : (b : BoundedStatement) → tree_sites (in_rows b) ≡ tree_sites b
@@ -113,7 +113,7 @@ rows_sites (exit w) = refl
 rows_sites stuck = refl
 rows_sites (inside line index len) = append-nil (tree_sites (inside line index len))
 
-sequence_fits : (w : Setting) (frames : List ℕ) (xs ys : List BoundedStatement) → IsTree w frames (sequence xs) → IsTree w frames (sequence ys) → IsTree w frames (sequence (xs ++ ys))
+sequence_fits : (w : Setting) (frames : List ℕ) (xs ys : List BoundedStatement) → IsTree w frames (bounded_statements_of xs) → IsTree w frames (bounded_statements_of ys) → IsTree w frames (bounded_statements_of (xs ++ ys))
 sequence_fits w frames [] ys f g = g
 sequence_fits w frames (x ∷ xs) ys f g = (f.0, sequence_fits w frames xs ys f.1 g)
 

@@ -1,5 +1,5 @@
 -- Inner: bounded and slotted trees as definitions read them, without pointers and capacities.
-use Rattle.std.specs.Prelude.{ℕ, ◌+◌, Bool, List, map, Option}
+use Rattle.std.specs.Prelude.{ℕ, Bool, List, [], ◌∷◌, map, Option}
 use Rattle.lz_tree.specs.declared.scoped.Object.{Object}
 use Rattle.lz_tree.specs.ScopedTrees.{ScopedExpression, scoped_expression}
 use Rattle.lz_bound.specs.declared.tree.BoundedStmt.{BoundedStmt, Eval, Fresh, Clear, Seq', If', Frame', Leave, Exit, Stuck, Inside, Row_of-BoundedStmt, end_of-BoundedStmt, more_of-BoundedStmt}
@@ -40,6 +40,11 @@ abbrev mutual
   pub bounded_statements : {m : _} → Row_of-BoundedStmt m → BoundedStatement
   bounded_statements end_of-BoundedStmt = nothing
   bounded_statements (more_of-BoundedStmt s rest) = seq (bounded_statement s) (bounded_statements rest)
+
+-- the statements of a list, one after the other
+abbrev pub bounded_statements_of : List BoundedStatement → BoundedStatement
+bounded_statements_of [] = nothing
+bounded_statements_of (s ∷ rest) = seq s (bounded_statements_of rest)
 
 -- the function of a start routine, and its code
 pub record BoundedRoutine : Type 0 where

@@ -4,3 +4,4 @@ pub mod CreateSites
 pub mod WellFormed
 pub mod SlottedPrograms
 pub mod Rows
+pub mod Sizes

@@ -1,11 +1,6 @@
 -- Inner: a tree whose sequences are rows: no sequence stands right in a sequence.
 use Rattle.std.specs.Prelude.{List, [], ◌∷◌, ◌++◌}
-use Rattle.lz_bound.specs.BoundedTrees.{BoundedStatement, evals, fresh, clear, nothing, seq, when, frame, leave, exit, stuck, inside}
-
--- the statements of a list, one after the other
-abbrev pub sequence : List BoundedStatement → BoundedStatement
-sequence [] = nothing
-sequence (s ∷ rest) = seq s (sequence rest)
+use Rattle.lz_bound.specs.BoundedTrees.{BoundedStatement, evals, fresh, clear, nothing, seq, when, frame, leave, exit, stuck, inside, bounded_statements_of}
 
 -- the statements that a tree does one after the other
 abbrev pub parts_of : BoundedStatement → List BoundedStatement
@@ -14,8 +9,8 @@ parts_of (fresh object) = fresh object ∷ []
 parts_of (clear object) = clear object ∷ []
 parts_of nothing = []
 parts_of (seq first rest) = parts_of first ++ parts_of rest
-parts_of (when test one two) = when test (sequence (parts_of one)) (sequence (parts_of two)) ∷ []
-parts_of (frame number body) = frame number (sequence (parts_of body)) ∷ []
+parts_of (when test one two) = when test (bounded_statements_of (parts_of one)) (bounded_statements_of (parts_of two)) ∷ []
+parts_of (frame number body) = frame number (bounded_statements_of (parts_of body)) ∷ []
 parts_of (leave number) = leave number ∷ []
 parts_of (exit whole) = exit whole ∷ []
 parts_of stuck = stuck ∷ []
@@ -23,4 +18,4 @@ parts_of (inside line index len) = inside line index len ∷ []
 
 -- the tree in rows
 abbrev pub in_rows : BoundedStatement → BoundedStatement
-in_rows tree = sequence (parts_of tree)
+in_rows tree = bounded_statements_of (parts_of tree)
