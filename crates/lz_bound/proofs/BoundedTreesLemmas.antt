@@ -1,5 +1,5 @@
 -- The parts of a sequence, as the items of the `Vec` that holds them.
-use Rattle.std.proofs.Common.{◌≡◌, ℕ, map, refl, ap, ◌∙◌, Vec, Global}
+use Rattle.std.proofs.Common.{◌≡◌, map, refl, ap, ◌∙◌, Vec, Global}
 use mathlib.Core.Former.{Count}
 use Rattle.lz_bound.specs.declared.tree.BoundedStmt.{BoundedStmt, Seq, Seq', Row_of-BoundedStmt, end_of-BoundedStmt, more_of-BoundedStmt, items-the_row-BoundedStmt, items_hidden-the_row-BoundedStmt-0}
 use Rattle.lz_bound.specs.BoundedTrees.{BoundedStatement, seq, bounded_statement, bounded_statements, bounded_statements_of}

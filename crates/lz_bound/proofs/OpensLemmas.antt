@@ -1,17 +1,14 @@
 -- Code may be cut at once.
-use Rattle.std.proofs.Common.{◌≡◌, ℕ, zero, suc, ◌<◌, Bool, true, false, List, [], ◌∷◌, Option, Some, None, inl, inr, refl, arith}
-use Rattle.lz_base.specs.Words.{value_bound, truth}
-use Rattle.std.specs.Prelude.{nat_lt}
+use Rattle.std.proofs.Common.{ℕ, zero, suc, Bool, true, false, Some, None, inl, refl, arith}
 use Rattle.lz_base.specs.declared.word.IntType.{IntType}
-use Rattle.lz_base.specs.declared.operator.Binary.{Binary}
 use Rattle.lz_tree.specs.declared.scoped.Object.{Object}
 use Rattle.lz_tree.specs.declared.scoped.Object.TheVariants.{Local, Cell, Mutex, Cond, Handle, Routine, Known}
-use Rattle.lz_tree.specs.ScopedTrees.{ScopedExpression, constant, null, text, object, address, paren, unary, cast, binary, choose, assign, step, call, Lvalue, lvalue, ScopedIndex, whole, element, ScopedExpressions, none, and}
-use Rattle.lz_model.specs.Behaviours.{cut, Behaviour, ends_with, halts, leaves, updates, ◌and_then◌, ◌gives◌, picks}
-use Rattle.lz_model.specs.CodeTraces.{Locals, Calls, no_calls, inputs, arbitrary_trace, zeros_trace, no_threads_trace, is_object_argument, expression_trace, index_trace, place_trace, arguments_trace, objects_trace, handed_trace}
+use Rattle.lz_tree.specs.ScopedTrees.{ScopedExpression, constant, null, text, object, address, paren, unary, cast, binary, choose, assign, step, call, lvalue, ScopedIndex, whole, element, ScopedExpressions, none, and}
+use Rattle.lz_model.specs.Behaviours.{Behaviour, ends_with, halts, leaves, updates, ◌and_then◌, ◌gives◌, picks}
+use Rattle.lz_model.specs.CodeTraces.{Calls, no_calls, inputs, arbitrary_trace, zeros_trace, no_threads_trace, is_object_argument, expression_trace, index_trace, arguments_trace, objects_trace, handed_trace}
 use Rattle.lz_agree.specs.Correspondence.{Opens}
 use Rattle.lz_bound.specs.BoundedTrees.{BoundedStatement, evals, fresh, clear, nothing, seq, when, frame, leave, exit, stuck, inside}
-use Rattle.lz_bound.specs.BoundedTraces.{Leaving, through, left, freshens, clears, bounded_trace}
+use Rattle.lz_bound.specs.BoundedTraces.{freshens, clears, bounded_trace}
 
 module _ {S A B : Type 0} where
   opens_then : {P : Behaviour S A} {next : A → Behaviour S B} → Opens P → Opens (P and_then next)

@@ -1,12 +1,11 @@
 -- A tree in rows does the same.
-use Rattle.std.proofs.Common.{◌≡◌, ℕ, zero, suc, Bool, true, false, List, [], ◌∷◌, ◌++◌, inl, inr, refl, sym, ap, ap₂, ◌∙◌, subst, append-nil, append_assoc}
-use Rattle.std.specs.Prelude.{⊤}
+use Rattle.std.proofs.Common.{◌≡◌, ℕ, Bool, true, false, List, [], ◌∷◌, ◌++◌, inl, inr, refl, sym, ap, ap₂, ◌∙◌, subst, append-nil, append_assoc}
 use Rattle.lz_model.specs.Actions.{Act}
-use Rattle.lz_model.specs.Behaviours.{Outcome, done, exits, cut, Behaviour, ends_with, GoesOn, ◌and_then◌, ◌gives◌, picks}
+use Rattle.lz_model.specs.Behaviours.{Outcome, done, exits, cut, Behaviour, ends_with, ◌and_then◌, ◌gives◌, picks}
 use Rattle.lz_model.specs.CodeTraces.{Locals}
 use Rattle.lz_model.proofs.FrontsLemmas.{Fronts}
 use Rattle.lz_tree.specs.WellScoped.{Setting}
-use Rattle.lz_agree.specs.Correspondence.{SameBehaviour, Opens}
+use Rattle.lz_agree.specs.Correspondence.{SameBehaviour}
 use Rattle.lz_agree.proofs.CorrespondsLemmas.{lasts_of}
 use Rattle.lz_agree.proofs.SameLemmas.{same_refl, same_trans, same_flip, same_then, same_value, then_assoc}
 use Rattle.lz_bound.specs.BoundedTrees.{BoundedStatement, evals, fresh, clear, nothing, seq, when, frame, leave, exit, stuck, inside, bounded_statements_of}
@@ -22,7 +21,7 @@ pub sequence-append : (xs ys : List BoundedStatement) → SameBehaviour (bounded
 sequence-append [] ys = same_value through (opens_tree (bounded_statements_of ys))
 sequence-append (x ∷ xs) ys =
     same_trans (same_flip (then_assoc (bounded_trace x) (λ u. passes u (bounded_trace (bounded_statements_of xs))) (λ u. passes u (bounded_trace (bounded_statements_of ys)))))
-      (same_then same_refl (λ u. by u (sequence-append xs ys)))
+    (same_then same_refl (λ u. by u (sequence-append xs ys)))
   where
     by : (u : Leaving) → SameBehaviour (bounded_trace (bounded_statements_of xs) and_then λ u. passes u (bounded_trace (bounded_statements_of ys))) (bounded_trace (bounded_statements_of (xs ++ ys)))
         → SameBehaviour (passes u (bounded_trace (bounded_statements_of xs)) and_then λ u. passes u (bounded_trace (bounded_statements_of ys))) (passes u (bounded_trace (bounded_statements_of (xs ++ ys))))

@@ -1,20 +1,19 @@
 -- A thread whose code is a tree may stop at any time.
-use Rattle.std.proofs.Common.{◌≡◌, ℕ, zero, suc, Bool, true, false, List, [], ◌∷◌, ◌++◌, Option, Some, None, refl}
+use Rattle.std.proofs.Common.{◌≡◌, ℕ, zero, suc, Bool, List, [], ◌∷◌, ◌++◌, Option, Some, None, refl}
 use Rattle.lz_base.specs.declared.word.BreakKind.TheVariants as kinds
 use Rattle.lz_base.specs.declared.word.IntType.{IntType}
-use Rattle.lz_base.specs.Words.{truth, is_true, converted}
+use Rattle.lz_base.specs.Words.{truth, converted}
 use Rattle.std.specs.Prelude.{nat_lt}
 use Rattle.lz_tree.specs.declared.scoped.Object.{Object}
 use Rattle.lz_tree.specs.declared.scoped.Object.TheVariants.{Local, Cell, Mutex, Cond, Handle, Routine, Known}
-use Rattle.lz_model.specs.Behaviours.{Behaviour, ends_with, halts, leaves, updates, ◌and_then◌, ◌gives◌, picks}
-use Rattle.lz_model.specs.CodeTraces.{Locals, no_calls, checks, decides, expression_trace, kind_of, kind_of_object, write_at, inputs, arbitrary_trace, zeros_trace, no_threads_trace}
-use Rattle.lz_model.specs.Interleavings.{Process}
+use Rattle.lz_model.specs.Behaviours.{Behaviour}
+use Rattle.lz_model.specs.CodeTraces.{Locals, no_calls, kind_of, kind_of_object, write_at, arbitrary_trace, zeros_trace, no_threads_trace}
 use Rattle.lz_model.proofs.RunFrontsLemmas.{IsOpen}
 use Rattle.std.proofs.Common.{inl, inr, sym, ◌∙◌, ap, subst}
 use Rattle.std.proofs.lemmas.List.{append-nil}
 use Rattle.lz_model.specs.Actions.{Act, started_by}
 use Rattle.lz_model.specs.Behaviours.{Outcome, done, exits, cut}
-use Rattle.lz_model.specs.Programs.{end_of, EndsThread, is_cut, is_done, is_left, numbered_after, CreatesFrom}
+use Rattle.lz_model.specs.Programs.{end_of, EndsThread, is_cut, is_done, is_left, CreatesFrom}
 use Rattle.lz_model.proofs.FrontsLemmas.{splits}
 use Rattle.lz_model.proofs.ThreadFrontsLemmas.{numbered_front}
 use Rattle.lz_model.proofs.FrontsLemmas.{Fronts, fronts_then, fronts_gives, fronts_value, fronts_halts, fronts_leaves, fronts_updates, fronts_picks, fronts_chooses, fronts_checks, FrontCalls, fronts_expression}

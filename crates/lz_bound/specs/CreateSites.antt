@@ -1,9 +1,8 @@
 -- Inner: the create sites of code and of trees, by the functions that they start, in the order of the text: one that stands in an argument of another comes before it.
 use Rattle.std.specs.Prelude.{ℕ, zero, suc, List, [], ◌∷◌, ◌++◌, Option, Some, None}
-use Rattle.lz_tree.specs.declared.scoped.KnownName.{KnownName}
 use Rattle.lz_tree.specs.declared.scoped.KnownName.TheVariants as known
 use Rattle.lz_tree.specs.declared.scoped.Object.{Object}
-use Rattle.lz_tree.specs.declared.scoped.Object.TheVariants.{Local, Cell, Mutex, Cond, Handle, Routine, Known}
+use Rattle.lz_tree.specs.declared.scoped.Object.TheVariants.{Routine, Known}
 use Rattle.lz_tree.specs.ScopedTrees.{ScopedExpression, constant, null, text, object, address, paren, unary, cast, binary, choose, assign, step, call, Lvalue, lvalue, ScopedIndex, whole, element, ScopedExpressions, none, and, ScopedInitializer, nothing, single, listed, ScopedInitDeclarator, ScopedStatement, empty, eval, block, declare, when, while, do_while, for, break, continue, return, label, ScopedBranch, absent, branch, ScopedStatements, nil, cons, ScopedProgram}
 use Rattle.lz_model.specs.Programs.{function_at}
 use Rattle.lz_bound.specs.BoundedTrees as tree

@@ -1,5 +1,5 @@
 -- Inner: the processes of bounded and of slotted programs.
-use Rattle.std.specs.Prelude.{◌≡◌, ℕ, ◌==◌, ◌+◌, length, zero, suc, Bool, true, false, List, [], ◌∷◌, slice_index_or, slice_index, Option, Some, None, if◌then◌else◌, map}
+use Rattle.std.specs.Prelude.{ℕ, ◌==◌, ◌+◌, length, zero, suc, true, false, List, [], ◌∷◌, if◌then◌else◌, map}
 use Rattle.lz_tree.specs.ScopedTrees.{ScopedProgram}
 use Rattle.lz_model.specs.Store.{opening}
 use Rattle.lz_model.specs.declared.actions.Action.{Action}

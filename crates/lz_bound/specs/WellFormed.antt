@@ -4,7 +4,7 @@ use Rattle.std.specs.List.{Contains}
 use Rattle.lz_base.specs.declared.word.IntType.{IntType}
 use Rattle.lz_base.specs.declared.word.IntType.TheVariants.{Unsigned}
 use Rattle.lz_tree.specs.declared.scoped.Object.{Object}
-use Rattle.lz_tree.specs.declared.scoped.Object.TheVariants.{Local, Cell, Mutex, Cond, Handle, Routine, Known}
+use Rattle.lz_tree.specs.declared.scoped.Object.TheVariants.{Local, Handle}
 use Rattle.lz_tree.specs.ScopedTrees.{ScopedExpression, ScopedProgram}
 use Rattle.lz_tree.specs.WellScoped.{Setting, IsLength, IsInteger, IsThread, IsScoped, HasValue}
 use Rattle.lz_bound.specs.BoundedTrees.{BoundedStatement, evals, fresh, clear, nothing, seq, when, frame, leave, exit, stuck, inside, BoundedRoutine, BoundedProgram, SlottedProgram}

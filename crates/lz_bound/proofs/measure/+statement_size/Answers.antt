@@ -1,6 +1,6 @@
-use Rattle.std.proofs.Common.{◌∙◌, ap, sym, arith}
+use Rattle.std.proofs.Common.{ap, arith}
 use Rattle.lz_bound.specs.BoundedTrees.{bounded_statement}
-use Rattle.lz_bound.specs.Sizes.{saturated, statement_size}
+use Rattle.lz_bound.specs.Sizes.{statement_size}
 use Rattle.lz_bound.proofs.BoundedTreesLemmas.{is_bounded_seq}
 use Rattle.lz_bound.proofs.SumLemmas.{statements_size-of, sum_end}
 use Rattle.lz_bound.proofs.measure.+statement_size.Goals as goal

@@ -1,7 +1,6 @@
-use Rattle.std.proofs.Common.{◌≡◌, ◌+◌, drop}
 use Rattle.lz_bound.specs.BoundedTrees.{bounded_routine, bounded_program}
-use Rattle.lz_bound.specs.Sizes.{saturated, statement_size, program_size}
-use Rattle.lz_bound.proofs.SumLemmas.{total, IsSumFrom}
+use Rattle.lz_bound.specs.Sizes.{statement_size, program_size}
+use Rattle.lz_bound.proofs.SumLemmas.{IsSumFrom}
 use Rattle.lz_bound.proofs.measure.size.Given as goal
 
 -- the nodes so far
