@@ -1,20 +1,16 @@
 -- A call of a function of the file, inlined: its arguments, its body and its value.
-use Rattle.std.proofs.Common.{◌≡◌, ◌≢◌, ℕ, zero, suc, ◌+◌, ◌<◌, ◌≤◌, ◌==◌, ◌⊎◌, inl, inr, Bool, true, false, List, [], ◌∷◌, ◌++◌, length, Option, Some, None, slice_index, if◌then◌else◌, refl, sym, ap, ◌∙◌, subst, arith, add-zero, le_refl, le_trans}
+use Rattle.std.proofs.Common.{◌≡◌, ◌≢◌, ℕ, zero, suc, ◌+◌, ◌<◌, ◌≤◌, ◌⊎◌, inl, inr, List, [], ◌∷◌, length, Option, Some, None, slice_index, if◌then◌else◌, refl, sym, ap, ◌∙◌, subst, arith, add-zero, le_trans}
 use Rattle.std.proofs.lemmas.List.{get_or_past}
 use Rattle.std.proofs.lemmas.Bool.{eq-eqb, ne_eqb}
 use Rattle.lz_base.specs.declared.word.IntType.{IntType}
-use Rattle.lz_tree.specs.declared.scoped.Object.TheVariants.{Routine}
-use Rattle.lz_tree.specs.ScopedTrees.{ScopedExpression, call, ScopedExpressions, none, and}
-use Rattle.lz_model.specs.Behaviours.{Outcome, done, exits, cut, Behaviour, ends_with, halts, ◌and_then◌, ◌gives◌}
-use Rattle.lz_model.specs.CodeTraces.{Locals, Calls, no_calls, put, set_local, expression_trace, arguments_trace, locs, passed, kinds_of, frame_of, entered, came_back, in_frame}
-use Rattle.lz_agree.proofs.CorrespondsLemmas.{corresponds_value, corresponds_less, corresponds_then, corresponds_quiet_left, corresponds_quiet_tail, corresponds_gives_left, corresponds_gives_right}
+use Rattle.lz_model.specs.Behaviours.{Behaviour, ◌and_then◌, ◌gives◌}
+use Rattle.lz_model.specs.CodeTraces.{Locals, Calls, no_calls, put, set_local, expression_trace, locs, passed, entered, came_back, in_frame}
+use Rattle.lz_agree.proofs.CorrespondsLemmas.{corresponds_then, corresponds_quiet_tail}
 use Rattle.lz_agree.proofs.QuietLemmas.{quiet_value, quiet_loc, quiet_tells, quiet_then}
-use Rattle.lz_agree.specs.Correspondence.{Simulated, Corresponds, Quiet}
-use Rattle.lz_bound.specs.BoundedTraces.{Leaving, through, left, passes, stores, bounded_trace}
-use Rattle.lz_bound.specs.BoundedTrees.{BoundedStatement}
-use Rattle.lz_unwind.specs.Pieces.{Made, Inliner, temp, local, head_kind, tail_kinds}
-use Rattle.lz_unwind.specs.Relation.{Valued, Near, Kept, Into, Inlined, Chain}
-use Rattle.lz_unwind.specs.Translation.{arguments_into}
+use Rattle.lz_agree.specs.Correspondence.{Corresponds, Quiet}
+use Rattle.lz_bound.specs.BoundedTraces.{Leaving, through, passes, stores, bounded_trace}
+use Rattle.lz_unwind.specs.Pieces.{Inliner, temp, local}
+use Rattle.lz_unwind.specs.Relation.{Valued, Near, Into, Inlined, Chain}
 
 pub put_same : (i v : ℕ) (f : ℕ → ℕ) → put i v f i ≡ v
 put_same i v f = ap (λ b. if b then v else f i) (eq-eqb i i refl)
@@ -29,7 +25,7 @@ module _ {S A B : Type 0} where
     can = (q.can.0, q.can.1, record { is = (_, q.can.2, refl) });
     cuts = λ acts e. q.cuts acts e.is;
     leaves = λ acts w e. q.leaves acts w e.is;
-    ends = λ acts t v e. let k = q.ends acts t e.is.0 e.is.1 in (k.0, k.1, e.is.2 ∙ ap f k.2)
+    ends = λ acts t v e. let k = q.ends acts t e.is.0 e.is.1 in (k.0, k.1, e.is.2 ∙ ap f k.2);
   }
 
 -- ---- parts of a sequence
@@ -66,10 +62,10 @@ finish_as {of} {o} {l} {x} {m} {m'} {t} {s'} {t'} v z e a b c = record {
     result = put_other x z t'.frame (o + l) (omega arith) ∙ c.near.result;
     unused = λ k h. put_other x z t'.frame k (omega (arith, c.grows)) ∙ c.near.unused k h;
     handles = c.near.handles;
-    room = c.near.room
+    room = c.near.room;
   };
   same = λ k h g n. put_other x z t'.frame k n ∙ c.same k h g;
-  value = λ known. put_same x z t'.frame ∙ e known
+  value = λ known. put_same x z t'.frame ∙ e known;
 }
 
 -- the value is stored
@@ -98,15 +94,15 @@ module _ {Back : Type 0} {A B : Type 0} where
     there = record {
       cuts = λ acts e. h.there.cuts acts e.is;
       leaves = λ acts w e. h.there.leaves acts w e.is;
-      ends = λ acts after value e. let g = h.there.ends acts e.is.0 value e.is.1 in (g.0, g.1, g.2, g.3, g.4, subst (λ z. Post value z g.2 g.1) (sym e.is.2) g.5)
+      ends = λ acts after value e. let g = h.there.ends acts e.is.0 value e.is.1 in (g.0, g.1, g.2, g.3, g.4, subst (λ z. Post value z g.2 g.1) (sym e.is.2) g.5);
     };
     back = λ k. record {
       cuts = λ acts e. let g = (h.back k).cuts acts e in (g.0, g.1, record { is = g.2 });
       leaves = λ acts w e. let g = (h.back k).leaves acts w e in (g.0, g.1, record { is = g.2 });
-      ends = λ acts after value e. let g = (h.back k).ends acts after value e in (g.0, came_back s g.1, g.2, g.3, record { is = (g.1, g.4, refl) }, g.5)
+      ends = λ acts after value e. let g = (h.back k).ends acts after value e in (g.0, came_back s g.1, g.2, g.3, record { is = (g.1, g.4, refl) }, g.5);
     };
     opens = h.opens;
-    lasts = λ acts after value e. record { is = h.lasts acts e.is.0 value e.is.1 }
+    lasts = λ acts after value e. record { is = h.lasts acts e.is.0 value e.is.1 };
   }
 
 -- ---- arguments
@@ -124,7 +120,7 @@ first_and_rest {of} {o} {l} {x} {m} {m1} {m2} {n} {t} {s1} {t1} {s2} {t2} {v} {v
   near = h2.near;
   all = ap suc h2.all;
   values = values;
-  same = λ k p q r. h2.same k (omega arith) q (elim r [ inl z ↦ inl (omega arith) | inr z ↦ inr (omega arith) ]) ∙ h1.same k p q (elim r [ inl z ↦ (λ e. omega arith) | inr z ↦ (λ e. omega arith) ])
+  same = λ k p q r. h2.same k (omega arith) q (elim r [ inl z ↦ inl (omega arith) | inr z ↦ inr (omega arith) ]) ∙ h1.same k p q (elim r [ inl z ↦ (λ e. omega arith) | inr z ↦ (λ e. omega arith) ]);
 }
   where
     values : (i : ℕ) → i < suc n → t2.frame (x + i) ≡ slice_index (v ∷ vs) i
@@ -139,11 +135,12 @@ callee_near {o} {l} {m} {m'} {n} {z} {t} {s1} {t1} {s} {vs} near c g h = record 
   result = h.same (m + z) (omega arith) (inr (omega (arith, near.room))) (inr (omega arith)) ∙ near.unused (m + z) (omega arith);
   unused = h.near.unused;
   handles = h.near.handles;
-  room = omega arith
+  room = omega arith;
 }
   where
     dec : (i : ℕ) → (i < n) ⊎ (n ≤ i)
     dec i = grind arith
+
     rest : (i : ℕ) → i < z → n ≤ i → t1.frame (m + i) ≡ slice_index vs i
     rest i b p = h.same (m + i) (omega arith) (inr (omega (arith, near.room))) (inr (omega arith)) ∙ near.unused (m + i) (omega arith) ∙ sym (get_or_past vs i 0 (omega (arith, h.all)))
 
@@ -161,16 +158,16 @@ called {o} {l} {m} near g g' h1 h2 = record {
       result = h2.kept.same (o + l) (omega (arith, near.room)) (inl near.room) ∙ h1.near.result;
       unused = h2.unused;
       handles = h2.handles;
-      room = omega (arith, near.room)
+      room = omega (arith, near.room);
     };
     same = λ k p q. h2.kept.same k (omega arith) (inl p) ∙ h1.same k (omega arith) q (inl p);
-    grows = omega arith
+    grows = omega arith;
   };
-  value = h2.value
+  value = h2.value;
 }
 
 -- what is known of the calls
 pub record CallsCorrespond (Back : Type 0) (ok : ℕ → Type 0) (size : ℕ → ℕ) (calls : Calls) (inline : Inliner) : Type 0 where
   pub grows : (f o m : ℕ) → m ≤ (inline f o m).next
   pub correspond : (f o m : ℕ) (s t : Locals) → ok f → Near o (size f) m s t →
-    Corresponds Back (calls.does f) s (bounded_trace (inline f o m).tree) t (λ v s' w t'. (w ≡ through) × Inlined o (size f) m (inline f o m).next t v s' t')
+      Corresponds Back (calls.does f) s (bounded_trace (inline f o m).tree) t (λ v s' w t'. (w ≡ through) × Inlined o (size f) m (inline f o m).next t v s' t')

@@ -1,5 +1,5 @@
 -- The unused numbers only move up.
-use Rattle.std.proofs.Common.{◌≡◌, ℕ, zero, suc, ◌+◌, ◌≤◌, Bool, true, false, ◌||◌, List, [], ◌∷◌, Option, Some, None, refl, arith, le_refl, le_trans}
+use Rattle.std.proofs.Common.{ℕ, zero, suc, ◌+◌, ◌≤◌, Bool, true, false, ◌||◌, List, [], ◌∷◌, Option, Some, None, arith, le_refl, le_trans}
 use Rattle.lz_base.specs.declared.word.IntType.{IntType}
 use Rattle.lz_base.specs.declared.operator.Binary.{Binary}
 use Rattle.lz_base.specs.declared.operator.Binary.TheVariants as ops
@@ -7,9 +7,9 @@ use Rattle.lz_tree.specs.declared.scoped.KnownName.{KnownName}
 use Rattle.lz_tree.specs.declared.scoped.Object.{Object}
 use Rattle.lz_tree.specs.declared.scoped.Object.TheVariants.{Local, Cell, Mutex, Cond, Handle, Routine, Known}
 use Rattle.lz_tree.specs.Kinds.{kind_of, kind_or}
-use Rattle.lz_tree.specs.ScopedTrees.{ScopedExpression, constant, null, text, object, address, paren, unary, cast, binary, choose, assign, step, call, Lvalue, lvalue, ScopedIndex, whole, element, ScopedExpressions, none, and, ScopedInitializer, nothing, single, listed, ScopedInitDeclarator, ScopedStatement, empty, eval, block, declare, when, while, do_while, for, break, continue, return, label, ScopedBranch, absent, branch, ScopedStatements, nil, cons}
+use Rattle.lz_tree.specs.ScopedTrees.{ScopedExpression, constant, null, text, object, address, paren, unary, cast, binary, choose, assign, step, call, lvalue, ScopedIndex, whole, element, ScopedExpressions, none, and, ScopedInitializer, nothing, single, listed, ScopedInitDeclarator, ScopedStatement, empty, eval, block, declare, when, while, do_while, for, break, continue, return, label, ScopedBranch, absent, branch, ScopedStatements, nil, cons}
 use Rattle.lz_unwind.specs.Moved.{has_call, index_has_call, all_have_call}
-use Rattle.lz_unwind.specs.Pieces.{Made, Callees, unless_call, head_kind, tail_kinds, operands, Shape, no_value, one_value, an_end, one_object, two_objects, creation, printing, shape_of}
+use Rattle.lz_unwind.specs.Pieces.{Made, Callees, unless_call, head_kind, tail_kinds, operands, Shape, one_value, an_end, one_object, two_objects, creation, printing, shape_of}
 use Rattle.lz_unwind.specs.Translation.{into, index_into, arguments_into, known_into, handed_into, printed_into, discarded, set_made, test_made, unless_made, step_made, cleared, listed_made, integer_made, object_made, declarators_made, is_silent, eval_made, return_made, statement_made, branch_made, statements_made}
 use Rattle.lz_unwind.proofs.TurnsLemmas.{turns_grow, do_turns_grow}
 
@@ -43,7 +43,7 @@ module _ (env : Callees) (o : ℕ) (inline_grows : (f i m : ℕ) → m ≤ (env.
     into_grows (choose line a b c kind) x k m =
         let m' = (into env o a m (kind_of a) (suc m)).next in
         unless_grows (has_call a || (has_call b || has_call c)) _ _ (le_refl m)
-          (le_trans (le_trans (up m) (into_grows a m (kind_of a) (suc m))) (le_trans (le_trans (up m') (into_grows b m' (kind_or kind) (suc m'))) (into_grows c m' (kind_or kind) (into env o b m' (kind_or kind) (suc m')).next)))
+        (le_trans (le_trans (up m) (into_grows a m (kind_of a) (suc m))) (le_trans (le_trans (up m') (into_grows b m' (kind_or kind) (suc m'))) (into_grows c m' (kind_or kind) (into env o b m' (kind_or kind) (suc m')).next)))
     into_grows (assign line None (lvalue at meant index checked) e kind) x k m =
         let m' = (index_into env o index m (suc m)).next in
         unless_grows (index_has_call index || has_call e) _ _ (le_refl m) (le_trans (le_trans (up m) (index_grows index m (suc m))) (le_trans (up m') (into_grows e m' (kind_of e) (suc m'))))
@@ -61,15 +61,15 @@ module _ (env : Callees) (o : ℕ) (inline_grows : (f i m : ℕ) → m ≤ (env.
     into_grows (call line (Cond first len) args kind) x k m = le_refl m
     into_grows (call line (Handle first len) args kind) x k m = le_refl m
 
-    index_grows : (index : ScopedIndex) (x m : ℕ) → m ≤ (index_into env o index x m).next
+    pub index_grows : (index : ScopedIndex) (x m : ℕ) → m ≤ (index_into env o index x m).next
     index_grows whole x m = le_refl m
     index_grows (element e) x m = into_grows e x (kind_of e) m
 
-    arguments_grows : (es : ScopedExpressions) (ks : List IntType) (x m : ℕ) → m ≤ (arguments_into env o es ks x m).next
+    pub arguments_grows : (es : ScopedExpressions) (ks : List IntType) (x m : ℕ) → m ≤ (arguments_into env o es ks x m).next
     arguments_grows none ks x m = le_refl m
     arguments_grows (and e es) ks x m = le_trans (into_grows e x (head_kind ks) m) (arguments_grows es (tail_kinds ks) (suc x) (into env o e x (head_kind ks) m).next)
 
-    known_grows : (shape : Shape) (line : ℕ) (name : KnownName) (args : ScopedExpressions) (kind : Option IntType) (x : ℕ) (k : IntType) (m : ℕ) → m ≤ (known_into env o shape line name args kind x k m).next
+    pub known_grows : (shape : Shape) (line : ℕ) (name : KnownName) (args : ScopedExpressions) (kind : Option IntType) (x : ℕ) (k : IntType) (m : ℕ) → m ≤ (known_into env o shape line name args kind x k m).next
     known_grows one_value line name (and e none) kind x k m = le_trans (up m) (into_grows e m (kind_of e) (suc m))
     known_grows an_end line name (and e none) kind x k m = le_trans (up m) (into_grows e m (kind_of e) (suc m))
     known_grows one_object line name (and thing rest) kind x k m = handed_grows thing m
@@ -80,12 +80,12 @@ module _ (env : Callees) (o : ℕ) (inline_grows : (f i m : ℕ) → m ≤ (env.
     known_grows printing line name (and format values) kind x k m = printed_grows values m
     known_grows shape line name args kind x k m = le_refl m
 
-    handed_grows : (thing : ScopedExpression) (m : ℕ) → m ≤ (handed_into env o thing m).next
+    pub handed_grows : (thing : ScopedExpression) (m : ℕ) → m ≤ (handed_into env o thing m).next
     handed_grows (address line (lvalue at meant index checked) kind) m = le_trans (up m) (index_grows index m (suc m))
     handed_grows (object (lvalue at meant index checked) kind) m = le_trans (up m) (index_grows index m (suc m))
     handed_grows e m = up m
 
-    printed_grows : (es : ScopedExpressions) (m : ℕ) → m ≤ (printed_into env o es m).next
+    pub printed_grows : (es : ScopedExpressions) (m : ℕ) → m ≤ (printed_into env o es m).next
     printed_grows none m = le_refl m
     printed_grows (and e es) m = le_trans (unless_grows (has_call e) _ _ (le_refl m) (le_trans (up m) (into_grows e m (kind_of e) (suc m)))) (printed_grows es (discarded env o e m).next)
 

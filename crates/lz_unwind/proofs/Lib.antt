@@ -8,3 +8,4 @@ pub mod StatementsLemmas
 pub mod ThreadsLemmas
 pub mod SitesLemmas
 pub mod ScopedLemmas
+pub mod FitsLemmas

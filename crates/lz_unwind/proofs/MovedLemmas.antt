@@ -1,9 +1,9 @@
 -- An expression with no call does the same on moved locals.
-use Rattle.std.proofs.Common.{◌≡◌, ◌≢◌, ℕ, zero, suc, ◌+◌, ◌<◌, ◌≤◌, ◌==◌, ◌⊎◌, inl, inr, Bool, true, false, not, ◌||◌, nat_lt, List, [], ◌∷◌, ◌++◌, length, slice_index, Option, Some, None, if◌then◌else◌, refl, sym, ap, ap₂, ◌∙◌, subst, arith, add-zero, add_assoc}
+use Rattle.std.proofs.Common.{◌≡◌, ◌≢◌, ℕ, zero, suc, ◌+◌, ◌<◌, ◌⊎◌, inl, inr, Bool, true, false, ◌||◌, nat_lt, List, [], ◌∷◌, slice_index, Option, Some, None, if◌then◌else◌, refl, sym, ap, ap₂, ◌∙◌, subst, arith, add_assoc}
 use Rattle.std.proofs.lemmas.Bool.{true≢false, false≢true, ltb-true}
 use Rattle.std.proofs.lemmas.Bool.Decides.{eqb_tells}
 use Rattle.std.specs.Prelude.{eqb, ⊤}
-use Rattle.lz_base.specs.Words.{value_bound, is_true, truth, converted}
+use Rattle.lz_base.specs.Words.{is_true, truth}
 use Rattle.lz_base.specs.declared.word.BreakKind.{BreakKind}
 use Rattle.lz_base.specs.declared.word.BreakKind.TheVariants as kinds
 use Rattle.lz_base.specs.declared.word.IntType.{IntType}
@@ -13,15 +13,15 @@ use Rattle.lz_tree.specs.declared.scoped.KnownName.{KnownName}
 use Rattle.lz_tree.specs.declared.scoped.KnownName.TheVariants as known
 use Rattle.lz_tree.specs.declared.scoped.Object.{Object}
 use Rattle.lz_tree.specs.declared.scoped.Object.TheVariants.{Local, Cell, Mutex, Cond, Handle, Routine, Known}
-use Rattle.lz_tree.specs.ScopedTrees.{ScopedExpression, constant, null, text, object, address, paren, unary, cast, binary, choose, assign, step, call, Lvalue, lvalue, ScopedIndex, whole, element, ScopedExpressions, none, and}
-use Rattle.lz_model.specs.Behaviours.{Outcome, done, exits, cut, Behaviour, ends_with, halts, leaves, updates, stays, tells, chooses, ◌and_then◌, ◌gives◌, picks}
-use Rattle.lz_model.specs.CodeTraces.{Locals, Calls, no_calls, put, set_local, set_handle, checks, assumes, inputs, IsWord, read_at, write_at, len_of, kind_of_object, kind_of, kind_or, needs, bounds, checks_index, decides, behind_first, checks_divisor, right_operand, operated, unary_operated, assigned, stepped, is_division, known_trace, expression_trace, arguments_trace, objects_trace, values_trace, handed_trace, place_trace, index_trace, is_object_argument, object_of, first_of, is_handle}
+use Rattle.lz_tree.specs.ScopedTrees.{ScopedExpression, constant, null, text, object, address, paren, unary, cast, binary, choose, assign, step, call, lvalue, ScopedIndex, whole, element, ScopedExpressions, none, and}
+use Rattle.lz_model.specs.Behaviours.{Behaviour, ◌and_then◌, ◌gives◌}
+use Rattle.lz_model.specs.CodeTraces.{Locals, Calls, no_calls, put, set_local, set_handle, checks, assumes, read_at, write_at, len_of, kind_of_object, kind_of, kind_or, needs, checks_index, behind_first, checks_divisor, right_operand, operated, unary_operated, assigned, stepped, is_division, known_trace, expression_trace, objects_trace, values_trace, handed_trace, place_trace, index_trace, is_object_argument, first_of, is_handle}
 use Rattle.lz_agree.proofs.CorrespondsLemmas.{corresponds_value, corresponds_act, corresponds_halts, corresponds_leaves, corresponds_chooses, corresponds_less, corresponds_then, corresponds_same_then, corresponds_gives_left, corresponds_gives_right, corresponds_act_then, corresponds_picks, corresponds_tells}
-use Rattle.lz_agree.specs.Correspondence.{Simulated, Corresponds, Quiet}
-use Rattle.lz_tree.specs.WellFormed.{MayAssign, is_logical}
-use Rattle.lz_tree.specs.WellScoped.{Setting, IsLength, AreWithin, IsInteger, IsMutex, IsCond, IsThread, Form, some_value, no_attribute, format, start, new_thread, made_thread, mutex, cond, forms_of, takes_more, HasValue, kind_at, is_address, is_object, meant_by, IsArgument, IsScoped, IsIndex, AreValues, AreArguments, IsIndexed, IsFormat, IsStart, IsNoAttribute}
+use Rattle.lz_agree.specs.Correspondence.{Corresponds}
+use Rattle.lz_tree.specs.WellFormed.{is_logical}
+use Rattle.lz_tree.specs.WellScoped.{Setting, IsInteger, IsMutex, IsCond, IsThread, Form, some_value, no_attribute, format, start, new_thread, made_thread, mutex, cond, forms_of, takes_more, kind_at, is_address, is_object, meant_by, IsArgument, IsScoped, IsIndex, AreValues, AreArguments, IsIndexed, IsFormat, IsStart}
 use Rattle.lz_unwind.proofs.CallsLemmas.{put_same, put_other}
-use Rattle.lz_unwind.specs.Moved.{moved, shift, shift_index, shift_all, has_call, index_has_call, all_have_call, is_routine}
+use Rattle.lz_unwind.specs.Moved.{moved, shift, shift_index, shift_all, has_call, index_has_call, all_have_call}
 use Rattle.lz_unwind.specs.Relation.{Near}
 
 pub or_left : (a b : Bool) → (a || b) ≡ false → a ≡ false
@@ -151,7 +151,7 @@ near_put {o} {l} {m} {s} {t} i v b n = record {
   result = put_other (o + i) v t.frame (o + l) (omega arith) ∙ n.result;
   unused = λ k h. put_other (o + i) v t.frame k (omega (arith, n.room)) ∙ n.unused k h;
   handles = n.handles;
-  room = n.room
+  room = n.room;
 }
   where
     at : (k : ℕ) → k < l → ((eqb k i ≡ true) × (k ≡ i)) ⊎ ((eqb k i ≡ false) × (k ≢ i)) → put (o + i) v t.frame (o + k) ≡ put i v s.frame k
@@ -179,8 +179,13 @@ module _ {Back : Type 0} {o m : ℕ} (w : Setting) where
       let within = f.0.within in
       let e = sym (add_assoc o first i) in
       let p : first + i < w.locals = omega arith in
-      corresponds_act (refl, record { near = subst (λ (k : ℕ). Near o w.locals m (set_local (first + i) v s) (set_local k v t)) e (near_put (first + i) v p n);
-        still = subst (λ (k : ℕ). Still o w.locals t (set_local k v t)) e (still_put (first + i) v p) })
+      corresponds_act (
+        refl,
+        record {
+          near = subst (λ (k : ℕ). Near o w.locals m (set_local (first + i) v s) (set_local k v t)) e (near_put (first + i) v p n);
+          still = subst (λ (k : ℕ). Still o w.locals t (set_local k v t)) e (still_put (first + i) v p);
+        },
+      )
   write_corresponds line (Cell first len kind) i v {s} {t} f b n = corresponds_act (refl, steps_same n)
   write_corresponds line (Mutex first len) i v f b n = absurd f
   write_corresponds line (Cond first len) i v f b n = absurd f
@@ -229,11 +234,11 @@ pub index_checked : {Back : Type 0} (o : ℕ) (w : Setting) (line : ℕ) (meant 
 index_checked o w line meant whole checked i f at = let one = f.0 in corresponds_value (refl, record { left = refl; right = refl; holds_ = omega (arith, at, one) })
 index_checked {Back} o w line meant (element e) true i {s} {t} f at =
     subst (λ (n : ℕ). Corresponds Back (needs (nat_lt i (len_of meant))) s (needs (nat_lt i n)) t (λ a s' b t'. (b ≡ a) × Passes (i < len_of meant) s t s' t')) (sym (len_of-moved o meant))
-      (corresponds_less (needs_correspond (nat_lt i (len_of meant))) (λ a s' b t' h. (h.0, record { left = h.1.left; right = h.1.right; holds_ = ltb-true i (len_of meant) h.1.holds_ })))
+    (corresponds_less (needs_correspond (nat_lt i (len_of meant))) (λ a s' b t' h. (h.0, record { left = h.1.left; right = h.1.right; holds_ = ltb-true i (len_of meant) h.1.holds_ })))
 index_checked {Back} o w line meant (element e) false i {s} {t} f at =
     subst (λ (n : ℕ). Corresponds Back (checks line (truth (nat_lt i (len_of meant))) kinds.Bounds) s (checks line (truth (nat_lt i n)) kinds.Bounds) t (λ a s' b t'. (b ≡ a) × Passes (i < len_of meant) s t s' t')) (sym (len_of-moved o meant))
-      (corresponds_less (checks_correspond line (truth (nat_lt i (len_of meant))) kinds.Bounds)
-        (λ a s' b t' h. (h.0, record { left = h.1.left; right = h.1.right; holds_ = ltb-true i (len_of meant) (fits_of (nat_lt i (len_of meant)) h.1.holds_) })))
+    (corresponds_less (checks_correspond line (truth (nat_lt i (len_of meant))) kinds.Bounds)
+    (λ a s' b t' h. (h.0, record { left = h.1.left; right = h.1.right; holds_ = ltb-true i (len_of meant) (fits_of (nat_lt i (len_of meant)) h.1.holds_) })))
 
 -- an index, and what is known of it
 pub record Indexed (o l m : ℕ) (index : ScopedIndex) (i : ℕ) (t s' t' : Locals) : Type 0 where
@@ -252,7 +257,7 @@ module _ {Back : Type 0} {o l m : ℕ} where
   plain_corresponds : (line : ℕ) (op : Binary) (k r : IntType) (a : ℕ) {second second' : Behaviour Locals ℕ} {s t t0 : Locals} →
       Corresponds Back second s second' t (λ v s' u t'. (u ≡ v) × Steps o l m t0 s' t') →
       Corresponds Back (second and_then λ b. checks_divisor line op (right_operand op k r b) gives λ _. operated op k r a b) s
-        (second' and_then λ b. checks_divisor line op (right_operand op k r b) gives λ _. operated op k r a b) t (λ v s' u t'. (u ≡ v) × Steps o l m t0 s' t')
+      (second' and_then λ b. checks_divisor line op (right_operand op k r b) gives λ _. operated op k r a b) t (λ v s' u t'. (u ≡ v) × Steps o l m t0 s' t')
   plain_corresponds line op k r a h = corresponds_same_then h (λ b s2 t2 h2.
       corresponds_gives_left (corresponds_gives_right (corresponds_less (divisor_corresponds line op (right_operand op k r b)) (λ x s' y t' p. (refl, steps_passed h2 p.1)))))
 
@@ -289,7 +294,7 @@ pub place_from : {Back : Type 0} {m : ℕ} (o : ℕ) (w : Setting) (calls : Call
 place_from o w calls line meant index checked f h =
     corresponds_same_then h (λ i s1 t1 h1.
     corresponds_gives_left (corresponds_gives_right (corresponds_less (index_checked o w line meant index checked i f h1.at)
-      (λ a s' b t' p. (refl, record { steps = steps_passed h1.steps p.1; below = p.1.holds_ })))))
+    (λ a s' b t' p. (refl, record { steps = steps_passed h1.steps p.1; below = p.1.holds_ })))))
 
 -- ---- known names
 
@@ -507,11 +512,11 @@ module _ {Back : Type 0} (w : Setting) (o m : ℕ) (calls : Calls) where
     shift_corresponds (binary line op a b kind) c f n =
         corresponds_same_then (shift_corresponds a (or_left (has_call a) (has_call b) c) f.0 n) (λ v s1 t1 h1.
         rw (kind_of-shift o a, kind_of-shift o b) (after_corresponds line op (kind_of a) (kind_of b) v h1
-          (corresponds_less (shift_corresponds b (or_right (has_call a) (has_call b) c) f.2 h1.near) (λ v s' u t' h. (h.0, steps_trans h1 h.1)))))
+        (corresponds_less (shift_corresponds b (or_right (has_call a) (has_call b) c) f.2 h1.near) (λ v s' u t' h. (h.0, steps_trans h1 h.1)))))
     shift_corresponds (choose line a b c kind) d f n =
         corresponds_same_then (shift_corresponds a (or_left (has_call a) (has_call b || has_call c) d) f.0 n) (λ v s1 t1 h1. corresponds_act_then (corresponds_picks (is_true v)
-          (λ _. corresponds_gives_left (corresponds_gives_right (corresponds_less (shift_corresponds b (or_left (has_call b) (has_call c) (or_right (has_call a) (has_call b || has_call c) d)) f.2 h1.near) (λ v s' u t' h. (h.0, steps_trans h1 h.1)))))
-          (λ _. corresponds_gives_left (corresponds_gives_right (corresponds_less (shift_corresponds c (or_right (has_call b) (has_call c) (or_right (has_call a) (has_call b || has_call c) d)) f.3 h1.near) (λ v s' u t' h. (h.0, steps_trans h1 h.1)))))))
+        (λ _. corresponds_gives_left (corresponds_gives_right (corresponds_less (shift_corresponds b (or_left (has_call b) (has_call c) (or_right (has_call a) (has_call b || has_call c) d)) f.2 h1.near) (λ v s' u t' h. (h.0, steps_trans h1 h.1)))))
+        (λ _. corresponds_gives_left (corresponds_gives_right (corresponds_less (shift_corresponds c (or_right (has_call b) (has_call c) (or_right (has_call a) (has_call b || has_call c) d)) f.3 h1.near) (λ v s' u t' h. (h.0, steps_trans h1 h.1)))))))
     shift_corresponds (assign line None (lvalue at meant index checked) e kind) c f n =
         corresponds_same_then (index_corresponds meant index checked (or_left (index_has_call index) (has_call e) c) f.1 n) (λ i s1 t1 h1.
         corresponds_same_then (shift_corresponds e (or_right (index_has_call index) (has_call e) c) f.2 h1.steps.near) (λ v s2 t2 h2.
@@ -524,13 +529,13 @@ module _ {Back : Type 0} (w : Setting) (o m : ℕ) (calls : Calls) where
         rw (kind_of_object-moved o meant, kind_of-shift o e)
         (corresponds_passed_then (divisor_corresponds line op (right_operand op (kind_of_object meant) (kind_of e) v)) (λ _ _.
         corresponds_less (write_corresponds w line meant i (assigned op (kind_of_object meant) (kind_of e) old v) f.0 h1.below h3.near)
-          (λ v s' u t' h. (h.0, steps_trans h1.steps (steps_trans h2 (steps_trans h3 h.1)))))))))
+        (λ v s' u t' h. (h.0, steps_trans h1.steps (steps_trans h2 (steps_trans h3 h.1)))))))))
     shift_corresponds (step line (lvalue at meant index checked) up before kind) c f n =
         corresponds_same_then (place_from o w calls at meant index checked f.1 (index_corresponds meant index checked c f.1 n)) (λ i s1 t1 h1.
         corresponds_same_then (read_corresponds w line meant i f.0 h1.below h1.steps.near) (λ old s2 t2 h2.
         rw (kind_of_object-moved o meant)
         (corresponds_gives_left (corresponds_gives_right (corresponds_less (write_corresponds w line meant i (stepped up (kind_of_object meant) old) f.0 h1.below h2.near)
-          (λ v s' u t' h. (ap (λ (x : ℕ). if before then x else old) h.0, steps_trans h1.steps (steps_trans h2 h.1))))))))
+        (λ v s' u t' h. (ap (λ (x : ℕ). if before then x else old) h.0, steps_trans h1.steps (steps_trans h2 h.1))))))))
     shift_corresponds (call line (Routine function) args kind) c f n = absurd (true≢false c)
     shift_corresponds (call line (Known name) args kind) {s} {t} c f n =
         corresponds_same_then (objects_correspond (takes_more name) (forms_of name) args c f.0 n) (λ xs s1 t1 h1.
@@ -556,10 +561,10 @@ module _ {Back : Type 0} (w : Setting) (o m : ℕ) (calls : Calls) where
         rw (is_object_argument-shift o e, no) (objects_correspond_values rest (or_right (has_call e) (all_have_call rest) c) f.3 n)
     objects_correspond more (form ∷ forms) (and e rest) {s} {t} c f n =
         rw (is_object_argument-shift o e) (corresponds_picks (is_object_argument e)
-          (λ h. corresponds_same_then (handed_corresponds form e (or_left (has_call e) (all_have_call rest) c) h f.0 n) (λ x s1 t1 h1.
-            corresponds_gives_left (corresponds_gives_right (corresponds_less (objects_correspond more forms rest (or_right (has_call e) (all_have_call rest) c) f.1 h1.near)
-              (λ xs s' ys t' g. (ap (λ (zs : List ℕ). x ∷ zs) g.0, steps_trans h1 g.1))))))
-          (λ h. objects_correspond more forms rest (or_right (has_call e) (all_have_call rest) c) f.1 n))
+        (λ h. corresponds_same_then (handed_corresponds form e (or_left (has_call e) (all_have_call rest) c) h f.0 n) (λ x s1 t1 h1.
+        corresponds_gives_left (corresponds_gives_right (corresponds_less (objects_correspond more forms rest (or_right (has_call e) (all_have_call rest) c) f.1 h1.near)
+        (λ xs s' ys t' g. (ap (λ (zs : List ℕ). x ∷ zs) g.0, steps_trans h1 g.1))))))
+        (λ h. objects_correspond more forms rest (or_right (has_call e) (all_have_call rest) c) f.1 n))
 
     pub objects_correspond_values : (args : ScopedExpressions) {s t : Locals} → all_have_call args ≡ false → AreValues w args → Near o w.locals m s t →
         Corresponds Back (objects_trace calls args) s (objects_trace no_calls (shift_all o args)) t (λ xs s' ys t'. (ys ≡ xs) × Steps o w.locals m t s' t')
@@ -574,14 +579,14 @@ module _ {Back : Type 0} (w : Setting) (o m : ℕ) (calls : Calls) where
     values_correspond more [] (and e rest) c f n =
         let no = scoped_no_object w e f.1 in
         rw (is_object_argument-shift o e, no) (corresponds_same_then (shift_corresponds e (or_left (has_call e) (all_have_call rest) c) f.1 n) (λ x s1 t1 h1.
-          corresponds_gives_left (corresponds_gives_right (corresponds_less (values_correspond_values rest (or_right (has_call e) (all_have_call rest) c) f.3 h1.near)
-            (λ xs s' ys t' g. (ap (λ (zs : List ℕ). x ∷ zs) g.0, steps_trans h1 g.1))))))
+        corresponds_gives_left (corresponds_gives_right (corresponds_less (values_correspond_values rest (or_right (has_call e) (all_have_call rest) c) f.3 h1.near)
+        (λ xs s' ys t' g. (ap (λ (zs : List ℕ). x ∷ zs) g.0, steps_trans h1 g.1))))))
     values_correspond more (form ∷ forms) (and e rest) c f n =
         rw (is_object_argument-shift o e) (corresponds_picks (is_object_argument e)
-          (λ h. values_correspond more forms rest (or_right (has_call e) (all_have_call rest) c) f.1 n)
-          (λ h. corresponds_same_then (value_from form e h f.0 n (λ g. shift_corresponds e (or_left (has_call e) (all_have_call rest) c) g n)) (λ x s1 t1 h1.
-            corresponds_gives_left (corresponds_gives_right (corresponds_less (values_correspond more forms rest (or_right (has_call e) (all_have_call rest) c) f.1 h1.near)
-              (λ xs s' ys t' g. (ap (λ (zs : List ℕ). x ∷ zs) g.0, steps_trans h1 g.1)))))))
+        (λ h. values_correspond more forms rest (or_right (has_call e) (all_have_call rest) c) f.1 n)
+        (λ h. corresponds_same_then (value_from form e h f.0 n (λ g. shift_corresponds e (or_left (has_call e) (all_have_call rest) c) g n)) (λ x s1 t1 h1.
+        corresponds_gives_left (corresponds_gives_right (corresponds_less (values_correspond more forms rest (or_right (has_call e) (all_have_call rest) c) f.1 h1.near)
+        (λ xs s' ys t' g. (ap (λ (zs : List ℕ). x ∷ zs) g.0, steps_trans h1 g.1)))))))
 
     pub values_correspond_values : (args : ScopedExpressions) {s t : Locals} → all_have_call args ≡ false → AreValues w args → Near o w.locals m s t →
         Corresponds Back (values_trace calls args) s (values_trace no_calls (shift_all o args)) t (λ xs s' ys t'. (ys ≡ xs) × Steps o w.locals m t s' t')
@@ -589,19 +594,19 @@ module _ {Back : Type 0} (w : Setting) (o m : ℕ) (calls : Calls) where
     values_correspond_values (and e rest) c f n =
         let no = scoped_no_object w e f.0 in
         rw (is_object_argument-shift o e, no) (corresponds_same_then (shift_corresponds e (or_left (has_call e) (all_have_call rest) c) f.0 n) (λ x s1 t1 h1.
-          corresponds_gives_left (corresponds_gives_right (corresponds_less (values_correspond_values rest (or_right (has_call e) (all_have_call rest) c) f.2 h1.near)
-            (λ xs s' ys t' g. (ap (λ (zs : List ℕ). x ∷ zs) g.0, steps_trans h1 g.1))))))
+        corresponds_gives_left (corresponds_gives_right (corresponds_less (values_correspond_values rest (or_right (has_call e) (all_have_call rest) c) f.2 h1.near)
+        (λ xs s' ys t' g. (ap (λ (zs : List ℕ). x ∷ zs) g.0, steps_trans h1 g.1))))))
 
     pub handed_corresponds : (form : Form) (e : ScopedExpression) {s t : Locals} → has_call e ≡ false → is_object_argument e ≡ true → IsArgument w form e (IsScoped w e) (IsIndexed w e) → Near o w.locals m s t →
         Corresponds Back (handed_trace calls e) s (handed_trace no_calls (shift o e)) t (λ v s' u t'. (u ≡ v) × Steps o w.locals m t s' t')
     handed_corresponds form (address line (lvalue at meant index checked) kind) c h f n =
         let k = address_kept o w form line at meant index checked kind f in
         corresponds_gives_left (corresponds_gives_right (corresponds_less (place_from o w calls at meant index checked k.index_ (index_corresponds meant index checked c k.index_ n))
-          (λ i s' j t' p. (ap₂ ◌+◌ k.first p.0, p.1.steps))))
+        (λ i s' j t' p. (ap₂ ◌+◌ k.first p.0, p.1.steps))))
     handed_corresponds form (object (lvalue at (Handle first len) index checked) kind) c h f n =
         let k = object_kept o w form at first len index checked kind f in
         corresponds_gives_left (corresponds_gives_right (corresponds_less (place_from o w calls at (Handle first len) index checked k.index_ (index_corresponds (Handle first len) index checked c k.index_ n))
-          (λ i s' j t' p. (ap₂ ◌+◌ k.first p.0, p.1.steps))))
+        (λ i s' j t' p. (ap₂ ◌+◌ k.first p.0, p.1.steps))))
     handed_corresponds form (object (lvalue at (Local first len k) index checked) kind) c h f n = absurd (false≢true h)
     handed_corresponds form (object (lvalue at (Cell first len k) index checked) kind) c h f n = absurd (false≢true h)
     handed_corresponds form (object (lvalue at (Mutex first len) index checked) kind) c h f n = absurd (false≢true h)

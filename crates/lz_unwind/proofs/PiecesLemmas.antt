@@ -1,35 +1,28 @@
 -- Pieces of inlined code: temporaries, indexes in them, what is stored.
-use Rattle.std.proofs.Common.{◌≡◌, ◌≢◌, ℕ, zero, suc, ◌+◌, ◌<◌, ◌≤◌, ◌==◌, ◌⊎◌, inl, inr, Bool, true, false, not, ◌||◌, ◌&&◌, nat_lt, List, [], ◌∷◌, ◌++◌, length, slice_index, Option, Some, None, if◌then◌else◌, refl, sym, ap, ap₂, ◌∙◌, subst, arith, add-zero, le_refl, le_trans}
-use Rattle.std.proofs.lemmas.Bool.{true≢false, false≢true, ltb-true, lt-ltb}
+use Rattle.std.proofs.Common.{◌≡◌, ℕ, zero, suc, ◌+◌, ◌<◌, ◌≤◌, ◌==◌, inr, Bool, true, false, not, ◌&&◌, nat_lt, List, [], ◌∷◌, Option, Some, None, refl, sym, ◌∙◌, subst, arith, le_refl, le_trans}
+use Rattle.std.proofs.lemmas.Bool.{false≢true, ltb-true, lt-ltb}
 use Rattle.std.specs.Prelude.{⊤}
-use Rattle.lz_base.specs.Words.{is_true, truth, converted}
+use Rattle.lz_base.specs.Words.{is_true, truth}
 use Rattle.lz_base.specs.declared.word.BreakKind.TheVariants as kinds
 use Rattle.lz_base.specs.declared.word.IntType.{IntType}
-use Rattle.lz_base.specs.declared.word.IntType.TheVariants.{Int}
 use Rattle.lz_base.specs.declared.operator.Binary.{Binary}
-use Rattle.lz_base.specs.declared.operator.Binary.TheVariants as ops
-use Rattle.lz_tree.specs.declared.scoped.KnownName.{KnownName}
 use Rattle.lz_tree.specs.declared.scoped.Object.{Object}
-use Rattle.lz_tree.specs.declared.scoped.Object.TheVariants.{Local, Cell, Mutex, Cond, Handle, Routine, Known}
-use Rattle.lz_tree.specs.ScopedTrees.{ScopedExpression, constant, null, text, object, address, paren, unary, cast, binary, choose, assign, step, call, Lvalue, lvalue, ScopedIndex, whole, element, ScopedExpressions, none, and}
-use Rattle.lz_model.specs.Actions.{Act}
-use Rattle.lz_model.specs.Behaviours.{Outcome, done, exits, cut, Behaviour, ends_with, halts, GoesOn, ◌and_then◌, ◌gives◌, picks}
-use Rattle.lz_model.specs.CodeTraces.{values_trace, objects_trace, handed_trace, is_object_argument, Locals, Calls, no_calls, set_local, checks, read_at, write_at, len_of, kind_of_object, kind_of, kind_or, needs, bounds, checks_index, expression_trace, index_trace, place_trace, right_operand, operated, assigned, stepped, unary_operated, checks_divisor, value_kind, way_of, behind_first, arguments_trace, locs, passed, kinds_of, entered, came_back, in_frame}
-use Rattle.lz_agree.proofs.CorrespondsLemmas.{corresponds_value, corresponds_act, corresponds_halts, corresponds_chooses, corresponds_less, corresponds_then, corresponds_same_then, corresponds_act_then, corresponds_picks, corresponds_quiet_left, corresponds_quiet_right, corresponds_quiet_tail, corresponds_value_quiet, corresponds_gives_left, corresponds_gives_right}
-use Rattle.lz_agree.proofs.QuietLemmas.{quiet_value, quiet_loc, quiet_tells, quiet_then}
-use Rattle.lz_agree.proofs.SameLemmas.{then_assoc, gives_then, corresponds_same_left, corresponds_same_right}
-use Rattle.lz_agree.specs.Correspondence.{Simulated, Corresponds, Quiet, SameBehaviour}
-use Rattle.lz_bound.specs.BoundedTraces.{Leaving, through, left, passes, stores, bounded_trace}
-use Rattle.lz_bound.specs.BoundedTrees.{BoundedStatement}
+use Rattle.lz_tree.specs.declared.scoped.Object.TheVariants.{Routine}
+use Rattle.lz_tree.specs.ScopedTrees.{ScopedExpression, constant, null, object, address, binary, lvalue, ScopedIndex, whole, element, ScopedExpressions, none, and}
+use Rattle.lz_model.specs.Behaviours.{Behaviour, ends_with, ◌and_then◌, ◌gives◌, picks}
+use Rattle.lz_model.specs.CodeTraces.{values_trace, objects_trace, handed_trace, is_object_argument, Locals, Calls, no_calls, set_local, write_at, len_of, kind_of_object, kind_of, needs, checks_index, expression_trace, index_trace, right_operand, operated, assigned, checks_divisor, value_kind, way_of}
+use Rattle.lz_agree.proofs.CorrespondsLemmas.{corresponds_value, corresponds_less, corresponds_then, corresponds_quiet_right, corresponds_quiet_tail, corresponds_gives_right}
+use Rattle.lz_agree.proofs.QuietLemmas.{quiet_value, quiet_then}
+use Rattle.lz_agree.proofs.SameLemmas.{then_assoc, corresponds_same_right}
+use Rattle.lz_agree.specs.Correspondence.{Corresponds, Quiet}
+use Rattle.lz_bound.specs.BoundedTraces.{Leaving, through, passes, stores, bounded_trace}
 use Rattle.lz_tree.specs.WellFormed.{is_logical}
-use Rattle.lz_tree.specs.WellScoped.{Form, some_value, no_attribute, format, start, new_thread, made_thread, mutex, cond, IsArgument, IsIndexed, IsStart, IsNoAttribute, kind_at, HasValue, joint_kind, Setting, IsInteger, IsScoped, IsIndex, AreValues, number_of, AreArguments, forms_of, takes_more}
-use Rattle.lz_unwind.proofs.CallsLemmas.{finish_as, finish_none, put_same, put_other, quiet_gives, quiet_temp, quiet_stored, near_more, finish, corresponds_seq, corresponds_seq_tail, quiet_locs, passed_same, corresponds_in_frame, Passed, first_and_rest, callee_near, Called, called, CallsCorrespond}
-use Rattle.lz_unwind.proofs.MovedLemmas.{scoped_no_object, address_is_handed, thread_is_handed, kind_at-shift, Steps, steps_same, steps_passed, steps_trans, Passes, shift_corresponds, corresponds_passed_then, checks_correspond, fits_of, IsAtIndex, index_checked, read_corresponds, write_corresponds, divisor_corresponds, after_plain, len_of-moved, kind_of_object-moved}
-use Rattle.lz_unwind.specs.Moved.{moved, shift, shift_index, shift_all, has_call, index_has_call, all_have_call, is_routine}
-use Rattle.lz_unwind.specs.Pieces.{Callees, target_of, shape_of, Made, Inliner, temp, local, made, after_, head_kind, tail_kinds, unless_call, at_temp, inside_of, tested, int_constant, truth_of, store, operands}
-use Rattle.lz_unwind.specs.Relation.{Valued, Near, Kept, Into, Inlined, Chain}
-use Rattle.lz_unwind.specs.Translation.{known_into, into, index_into, arguments_into}
-
+use Rattle.lz_tree.specs.WellScoped.{Form, some_value, no_attribute, format, start, new_thread, made_thread, mutex, cond, IsArgument, IsIndexed, IsStart, IsNoAttribute, kind_at, HasValue, joint_kind, Setting, IsInteger, IsScoped, IsIndex, AreValues, AreArguments}
+use Rattle.lz_unwind.proofs.CallsLemmas.{finish_none, quiet_gives, quiet_temp, quiet_stored, near_more, finish, corresponds_seq}
+use Rattle.lz_unwind.proofs.MovedLemmas.{scoped_no_object, address_is_handed, thread_is_handed, Steps, Passes, checks_correspond, fits_of, IsAtIndex, index_checked, write_corresponds, divisor_corresponds, after_plain, len_of-moved}
+use Rattle.lz_unwind.specs.Moved.{moved, shift, has_call, all_have_call}
+use Rattle.lz_unwind.specs.Pieces.{target_of, Made, temp, unless_call, at_temp, inside_of, tested, truth_of}
+use Rattle.lz_unwind.specs.Relation.{Valued, Near, Into, Chain}
 
 -- the value is in the temporary m
 pub record Spilled (o l m m' : ℕ) (t : Locals) (v : ℕ) (s' t' : Locals) : Type 0 where
@@ -74,7 +67,9 @@ joint_right (Some k) (Some j) h = tt
 pub spilled : {of : Option IntType} {o l m m' : ℕ} {t : Locals} {v : ℕ} {s' t' : Locals} → Valued of → o + l < m → suc m ≤ m' → Into of o l m (suc m) m' t v s' t' → Spilled o l m m' t v s' t'
 spilled {m = m} known r g h = record {
   chain = record { near = h.near; same = λ k b c. h.same k (omega arith) c (omega arith); grows = omega arith };
-  value = h.value known; room = g; above = r
+  value = h.value known;
+  room = g;
+  above = r;
 }
 
 pub stays_in : {o l m m' m'' : ℕ} {t s1 t1 s2 t2 : Locals} {v : ℕ} → Spilled o l m m' t v s1 t1 → Chain o l m' m'' t1 s2 t2 → t2.frame m ≡ v
@@ -100,8 +95,12 @@ module _ {Back : Type 0} {o l x m m' : ℕ} {t s1 t1 : Locals} where
   pub store_tail : (from k : IntType) (of : Option IntType) {P E : Behaviour Locals ℕ} → o + l < x → x < m → Chain o l m m' t s1 t1 →
       Corresponds Back P s1 E t1 (λ v s' u t'. (u ≡ v) × Steps o l m' t1 s' t') →
       Corresponds Back P s1 (E and_then λ v. stores from (target_of of x k) v) t1 (λ v s' u t'. (u ≡ through) × Into of o l x m m' t v s' t')
-  store_tail from k (Some j) a b c h = corresponds_quiet_tail h (λ v s' u t' g. (through, set_local x u t', quiet_stored from x u k,
-    (refl, subst (λ (z : ℕ). Into (Some j) o l x m m' t v s' (set_local x z t')) (sym g.0) (finish v a b (chain_steps c g.1)))))
+  store_tail from k (Some j) a b c h = corresponds_quiet_tail h (λ v s' u t' g. (
+    through,
+    set_local x u t',
+    quiet_stored from x u k,
+    (refl, subst (λ (z : ℕ). Into (Some j) o l x m m' t v s' (set_local x z t')) (sym g.0) (finish v a b (chain_steps c g.1))),
+  ))
   store_tail from k None a b c h = corresponds_quiet_tail h (λ v s' u t' g. (through, t', quiet_value, (refl, finish_none v (chain_steps c g.1))))
 
 pub chain_more : {o l m m' m'' : ℕ} {t s1 t1 : Locals} → m' ≤ m'' → Chain o l m m' t s1 t1 → Chain o l m m'' t s1 t1
@@ -156,7 +155,7 @@ inside_corresponds w line meant whole checked m i u f r h = let one = f.0 in cor
 inside_corresponds w line meant (element e) true m i u f r h = absurd (false≢true (sym u ∙ f.2))
 inside_corresponds w line meant (element e) false m i u f r h =
     corresponds_quiet_right (quiet_temp m i (kind_of e) h) (corresponds_gives_right (corresponds_less (checks_correspond line (truth (nat_lt i (len_of meant))) kinds.Bounds)
-      (λ a s' b t' g. (refl, record { left = g.1.left; right = g.1.right; holds_ = ltb-true i (len_of meant) (fits_of (nat_lt i (len_of meant)) g.1.holds_) }))))
+    (λ a s' b t' g. (refl, record { left = g.1.left; right = g.1.right; holds_ = ltb-true i (len_of meant) (fits_of (nat_lt i (len_of meant)) g.1.holds_) }))))
 
 -- an index that was tested is in range
 pub quiet_tested : (o line : ℕ) (meant : Object) (index : ScopedIndex) (m i : ℕ) {t : Locals} → i < len_of meant → Quiet (checks_index line (moved o meant) (at_temp index m) (tested index) i) t zero t
@@ -175,22 +174,22 @@ module _ {Back : Type 0} {A C : Type 0} where
 pub written : {Back : Type 0} {o n : ℕ} (w : Setting) (line at : ℕ) (op : Binary) (meant : Object) (index : ScopedIndex) (e : ScopedExpression) (kind : Option IntType) (m m' i old v : ℕ) {s t : Locals} →
     IsInteger w meant → is_logical op ≡ false → i < len_of meant → t.frame m' ≡ old → t.frame (suc m') ≡ v → Near o w.locals n s t →
     Corresponds Back (checks_divisor line op (right_operand op (kind_of_object meant) (kind_of e) v) and_then λ _. write_at line meant i (assigned op (kind_of_object meant) (kind_of e) old v)) s
-      (expression_trace no_calls (binary line op (temp m' (kind_of_object meant)) (temp (suc m') (kind_of e)) (Some (value_kind (way_of op) (kind_of_object meant) (kind_of e)))) and_then λ x.
-        checks_index at (moved o meant) (at_temp index m) (tested index) i and_then λ _. write_at line (moved o meant) i x) t
-      (λ v s' u t'. (u ≡ v) × Steps o w.locals n t s' t')
+    (expression_trace no_calls (binary line op (temp m' (kind_of_object meant)) (temp (suc m') (kind_of e)) (Some (value_kind (way_of op) (kind_of_object meant) (kind_of e)))) and_then λ x.
+    checks_index at (moved o meant) (at_temp index m) (tested index) i and_then λ _. write_at line (moved o meant) i x) t
+    (λ v s' u t'. (u ≡ v) × Steps o w.locals n t s' t')
 written {Back} {o} {n} w line at op meant index e kind m m' i old v {s} {t} f l below h k near =
     let K = kind_of_object meant in let R = kind_of e in
     corresponds_same_right (then_assoc _ _ _) (corresponds_quiet_right (quiet_temp m' old K h)
     (rw (after_plain line op K R (expression_trace no_calls (temp (suc m') R)) old l)
     (corresponds_same_right (then_assoc _ _ _) (corresponds_quiet_right (quiet_temp (suc m') v R k)
     (corresponds_then {Mid = λ a s' x t'. (x ≡ operated op K R old v) × Passes ⊤ s t s' t'}
-      (corresponds_gives_right (corresponds_less (divisor_corresponds line op (right_operand op K R v)) (λ a s' b t' p. (refl, p.1))))
-      (λ a s' x t' p. after x s' t' p.0 p.1.left p.1.right))))))
+    (corresponds_gives_right (corresponds_less (divisor_corresponds line op (right_operand op K R v)) (λ a s' b t' p. (refl, p.1))))
+    (λ a s' x t' p. after x s' t' p.0 p.1.left p.1.right))))))
   where
     after : (x : ℕ) (s' t' : Locals) → x ≡ operated op (kind_of_object meant) (kind_of e) old v → s' ≡ s → t' ≡ t →
         Corresponds Back (write_at line meant i (assigned op (kind_of_object meant) (kind_of e) old v)) s'
-          (checks_index at (moved o meant) (at_temp index m) (tested index) i and_then λ _. write_at line (moved o meant) i x) t'
-          (λ v s' u t'. (u ≡ v) × Steps o w.locals n t s' t')
+        (checks_index at (moved o meant) (at_temp index m) (tested index) i and_then λ _. write_at line (moved o meant) i x) t'
+        (λ v s' u t'. (u ≡ v) × Steps o w.locals n t s' t')
     after x s' t' e1 e2 e3 =
         subst (λ (y : ℕ). Corresponds Back (write_at line meant i (assigned op (kind_of_object meant) (kind_of e) old v)) s' (checks_index at (moved o meant) (at_temp index m) (tested index) i and_then λ _. write_at line (moved o meant) i y) t' (λ v s' u t'. (u ≡ v) × Steps o w.locals n t s' t')) (sym e1)
         (subst (λ (y : Locals). Corresponds Back (write_at line meant i (assigned op (kind_of_object meant) (kind_of e) old v)) y (checks_index at (moved o meant) (at_temp index m) (tested index) i and_then λ _. write_at line (moved o meant) i (operated op (kind_of_object meant) (kind_of e) old v)) t' (λ v s' u t'. (u ≡ v) × Steps o w.locals n t s' t')) (sym e2)
@@ -213,11 +212,14 @@ attribute_fixed c o e f = absurd f
 
 -- the name of a start routine
 pub start_fixed : (c : Calls) (o : ℕ) (w : Setting) (e : ScopedExpression) → IsStart w e → (v : ℕ) × IsFixed c o e v
-start_fixed c o w (object (lvalue line (Routine function) whole checked) kind) f = (function, record {
-  no = refl;
-  source = λ s. quiet_then (quiet_then quiet_value (quiet_gives quiet_value)) quiet_value;
-  tree = λ s. quiet_then (quiet_then quiet_value (quiet_gives quiet_value)) quiet_value
-})
+start_fixed c o w (object (lvalue line (Routine function) whole checked) kind) f = (
+  function,
+  record {
+    no = refl;
+    source = λ s. quiet_then (quiet_then quiet_value (quiet_gives quiet_value)) quiet_value;
+    tree = λ s. quiet_then (quiet_then quiet_value (quiet_gives quiet_value)) quiet_value;
+  },
+)
 start_fixed c o w e f = absurd f
 
 -- the index of an object that is handed on

@@ -1,14 +1,12 @@
 -- An expression with no call keeps the rules on moved locals.
-use Rattle.std.proofs.Common.{◌≡◌, ℕ, zero, suc, ◌+◌, ◌<◌, ◌≤◌, ◌||◌, not, Bool, true, false, List, [], ◌∷◌, Option, Some, None, refl, sym, ap, ap₂, ◌∙◌, subst, arith, add_assoc}
-use Rattle.std.proofs.lemmas.Bool.{true≢false, false≢true}
+use Rattle.std.proofs.Common.{◌≡◌, ℕ, ◌+◌, ◌<◌, ◌≤◌, ◌||◌, not, Bool, true, false, List, [], ◌∷◌, Some, None, refl, sym, ap, ap₂, ◌∙◌, subst, arith, add_assoc}
+use Rattle.std.proofs.lemmas.Bool.{true≢false}
 use Rattle.lz_base.specs.declared.word.IntType.{IntType}
-use Rattle.lz_base.specs.declared.operator.Binary.{Binary}
-use Rattle.lz_tree.specs.declared.scoped.KnownName.{KnownName}
 use Rattle.lz_tree.specs.declared.scoped.Object.{Object}
 use Rattle.lz_tree.specs.declared.scoped.Object.TheVariants.{Local, Cell, Mutex, Cond, Handle, Routine, Known}
-use Rattle.lz_tree.specs.Kinds.{kind_of, kind_or, kind_of_object, len_of, value_kind, way_of}
-use Rattle.lz_tree.specs.ScopedTrees.{ScopedExpression, constant, null, text, object, address, paren, unary, cast, binary, choose, assign, step, call, Lvalue, lvalue, ScopedIndex, whole, element, ScopedExpressions, none, and, ScopedProgram, function_at}
-use Rattle.lz_tree.specs.WellScoped.{Setting, IsLength, AreWithin, AreOfKind, IsInteger, IsMutex, IsCond, IsThread, Form, some_value, no_attribute, format, start, new_thread, made_thread, mutex, cond, kind_at, HasValue, unary_result, joint_kind, IsNoAttribute, IsFormat, IsStart, is_address, is_object, meant_by, IsArgument, IsScoped, IsIndex, AreValues, AreArguments, IsIndexed, takes_more, forms_of, IsWellScoped, MayStart, setting_of}
+use Rattle.lz_tree.specs.Kinds.{value_kind, way_of}
+use Rattle.lz_tree.specs.ScopedTrees.{ScopedExpression, constant, null, text, object, address, paren, unary, cast, binary, choose, assign, step, call, lvalue, ScopedIndex, whole, element, ScopedExpressions, none, and, ScopedProgram, function_at}
+use Rattle.lz_tree.specs.WellScoped.{Setting, IsInteger, IsMutex, IsCond, IsThread, Form, some_value, no_attribute, format, start, new_thread, made_thread, mutex, cond, HasValue, unary_result, joint_kind, IsNoAttribute, IsFormat, IsStart, is_address, is_object, meant_by, IsArgument, IsScoped, IsIndex, AreValues, AreArguments, IsIndexed, takes_more, forms_of, IsWellScoped, MayStart, setting_of}
 use Rattle.lz_bound.specs.WellFormed.{counts_of, local_limit, tree_setting}
 use Rattle.lz_unwind.specs.Moved.{moved, shift, shift_index, shift_all, has_call, index_has_call, all_have_call}
 use Rattle.lz_unwind.proofs.MovedLemmas.{or_left, or_right, kind_of-shift, kind_at-shift, len_of-moved, kind_of_object-moved}
@@ -85,8 +83,10 @@ pub record IsFramed (p : ScopedProgram) (W : IsWellScoped p) (f o : ℕ) (kinds 
 
 module _ (p : ScopedProgram) (W : IsWellScoped p) (main : Bool) (f o : ℕ) (alone : W.plan.alone f ≡ true → main ≡ true) (K : ℕ → IntType) (F : IsFramed p W f o K) where
   pub integer_moved : (x : Object) → IsInteger (setting_of p W.plan f) x → IsInteger (target p W main K) (moved o x)
-  integer_moved (Local first len kind) g = (record { length_ = g.0.length_; within = (let a = g.0.within in let b = F.room in omega (arith, a, b)) },
-      record { each = λ i h. ap K (add_assoc o first i) ∙ F.here (first + i) (let a = g.0.within in omega (arith, a, h)) ∙ g.1.each i h })
+  integer_moved (Local first len kind) g = (
+    record { length_ = g.0.length_; within = (let a = g.0.within in let b = F.room in omega (arith, a, b)) },
+    record { each = λ i h. ap K (add_assoc o first i) ∙ F.here (first + i) (let a = g.0.within in omega (arith, a, h)) ∙ g.1.each i h },
+  )
   integer_moved (Cell first len kind) g = g
   integer_moved (Mutex first len) g = absurd g
   integer_moved (Cond first len) g = absurd g
@@ -149,19 +149,37 @@ module _ (p : ScopedProgram) (W : IsWellScoped p) (main : Bool) (f o : ℕ) (alo
     scoped_moved (paren line e kind) c g = (scoped_moved e c g.0, g.1 ∙ sym (kind_at-shift o e))
     scoped_moved (unary line op e kind) c g = (scoped_moved e c g.0, has_value-shift o e g.1, g.2 ∙ sym (ap (λ (k : IntType). Some (unary_result op k)) (kind_of-shift o e)))
     scoped_moved (cast line to e kind) c g = (scoped_moved e c g.0, has_value-shift o e g.1)
-    scoped_moved (binary line op a b kind) c g =
-        (scoped_moved a (or_left (has_call a) (has_call b) c) g.0, has_value-shift o a g.1, scoped_moved b (or_right (has_call a) (has_call b) c) g.2, has_value-shift o b g.3,
-          g.4 ∙ sym (ap₂ (λ (j k : IntType). Some (value_kind (way_of op) j k)) (kind_of-shift o a) (kind_of-shift o b)))
+    scoped_moved (binary line op a b kind) c g = (
+      scoped_moved a (or_left (has_call a) (has_call b) c) g.0,
+      has_value-shift o a g.1,
+      scoped_moved b (or_right (has_call a) (has_call b) c) g.2,
+      has_value-shift o b g.3,
+      g.4 ∙ sym (ap₂ (λ (j k : IntType). Some (value_kind (way_of op) j k)) (kind_of-shift o a) (kind_of-shift o b)),
+    )
     scoped_moved (choose line a b d kind) c g =
-        let r = or_right (has_call a) (has_call b || has_call d) c in
-        (scoped_moved a (or_left (has_call a) (has_call b || has_call d) c) g.0, has_value-shift o a g.1, scoped_moved b (or_left (has_call b) (has_call d) r) g.2, scoped_moved d (or_right (has_call b) (has_call d) r) g.3,
-          g.4 ∙ sym (ap₂ joint_kind (kind_at-shift o b) (kind_at-shift o d)))
-    scoped_moved (assign line None (lvalue at meant index checked) e kind) c g =
-        (integer_moved meant g.0, index_moved meant checked index (or_left (index_has_call index) (has_call e) c) g.1, scoped_moved e (or_right (index_has_call index) (has_call e) c) g.2, has_value-shift o e g.3, g.4,
-          g.5 ∙ sym (ap (λ (k : IntType). Some k) (kind_of_object-moved o meant)))
-    scoped_moved (assign line (Some op) (lvalue at meant index checked) e kind) c g =
-        (integer_moved meant g.0, index_moved meant checked index (or_left (index_has_call index) (has_call e) c) g.1, scoped_moved e (or_right (index_has_call index) (has_call e) c) g.2, has_value-shift o e g.3, g.4,
-          g.5 ∙ sym (ap (λ (k : IntType). Some k) (kind_of_object-moved o meant)))
+        let r = or_right (has_call a) (has_call b || has_call d) c in (
+          scoped_moved a (or_left (has_call a) (has_call b || has_call d) c) g.0,
+          has_value-shift o a g.1,
+          scoped_moved b (or_left (has_call b) (has_call d) r) g.2,
+          scoped_moved d (or_right (has_call b) (has_call d) r) g.3,
+          g.4 ∙ sym (ap₂ joint_kind (kind_at-shift o b) (kind_at-shift o d)),
+        )
+    scoped_moved (assign line None (lvalue at meant index checked) e kind) c g = (
+      integer_moved meant g.0,
+      index_moved meant checked index (or_left (index_has_call index) (has_call e) c) g.1,
+      scoped_moved e (or_right (index_has_call index) (has_call e) c) g.2,
+      has_value-shift o e g.3,
+      g.4,
+      g.5 ∙ sym (ap (λ (k : IntType). Some k) (kind_of_object-moved o meant)),
+    )
+    scoped_moved (assign line (Some op) (lvalue at meant index checked) e kind) c g = (
+      integer_moved meant g.0,
+      index_moved meant checked index (or_left (index_has_call index) (has_call e) c) g.1,
+      scoped_moved e (or_right (index_has_call index) (has_call e) c) g.2,
+      has_value-shift o e g.3,
+      g.4,
+      g.5 ∙ sym (ap (λ (k : IntType). Some k) (kind_of_object-moved o meant)),
+    )
     scoped_moved (step line (lvalue at meant index checked) going before kind) c g =
         (integer_moved meant g.0, index_moved meant checked index c g.1, g.2 ∙ sym (ap (λ (k : IntType). Some k) (kind_of_object-moved o meant)))
     scoped_moved (call line (Routine function) args kind) c g = absurd (true≢false c)
@@ -185,9 +203,10 @@ module _ (p : ScopedProgram) (W : IsWellScoped p) (main : Bool) (f o : ℕ) (alo
     arguments_moved more [] (and e rest) c g =
         (g.0, scoped_moved e (or_left (has_call e) (all_have_call rest) c) g.1, has_value-shift o e g.2, values_moved rest (or_right (has_call e) (all_have_call rest) c) g.3)
     arguments_moved more (form ∷ forms) none c g = absurd g
-    arguments_moved more (form ∷ forms) (and e rest) c g =
-        (argument_moved form e g.0 (λ s. scoped_moved e (or_left (has_call e) (all_have_call rest) c) s) (λ i. indexed_moved e (or_left (has_call e) (all_have_call rest) c) i),
-          arguments_moved more forms rest (or_right (has_call e) (all_have_call rest) c) g.1)
+    arguments_moved more (form ∷ forms) (and e rest) c g = (
+      argument_moved form e g.0 (λ s. scoped_moved e (or_left (has_call e) (all_have_call rest) c) s) (λ i. indexed_moved e (or_left (has_call e) (all_have_call rest) c) i),
+      arguments_moved more forms rest (or_right (has_call e) (all_have_call rest) c) g.1,
+    )
 
     pub indexed_moved : (e : ScopedExpression) → has_call e ≡ false → IsIndexed (setting_of p W.plan f) e → IsIndexed (target p W main K) (shift o e)
     indexed_moved (address line (lvalue at meant index checked) kind) c g = index_moved meant checked index c g

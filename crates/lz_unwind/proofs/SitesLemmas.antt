@@ -1,5 +1,5 @@
 -- The create sites stay, in the order of the text as it is inlined and unwound.
-use Rattle.std.proofs.Common.{◌≡◌, ℕ, zero, suc, ◌+◌, ◌≤◌, ◌<◌, Bool, true, false, ◌||◌, ◌&&◌, not, List, [], ◌∷◌, ◌++◌, length, Option, Some, None, refl, sym, ap, ap₂, ◌∙◌, subst, arith, append_assoc, append-nil}
+use Rattle.std.proofs.Common.{◌≡◌, ℕ, zero, suc, ◌+◌, ◌≤◌, ◌<◌, Bool, true, false, ◌||◌, ◌&&◌, not, List, [], ◌∷◌, ◌++◌, length, Option, Some, None, refl, sym, ap, ap₂, ◌∙◌, arith, append_assoc, append-nil}
 use Rattle.std.proofs.lemmas.Bool.{true≢false, false≢true}
 use Rattle.lz_base.specs.declared.word.IntType.{IntType}
 use Rattle.lz_base.specs.declared.operator.Binary.{Binary}
@@ -9,18 +9,18 @@ use Rattle.lz_tree.specs.declared.scoped.KnownName.TheVariants as known
 use Rattle.lz_tree.specs.declared.scoped.Object.{Object}
 use Rattle.lz_tree.specs.declared.scoped.Object.TheVariants.{Local, Cell, Mutex, Cond, Handle, Routine, Known}
 use Rattle.lz_tree.specs.Kinds.{kind_of, kind_or}
-use Rattle.lz_tree.specs.ScopedTrees.{ScopedExpression, constant, null, text, object, address, paren, unary, cast, binary, choose, assign, step, call, Lvalue, lvalue, ScopedIndex, whole, element, ScopedExpressions, none, and, ScopedInitializer, nothing, single, listed, ScopedInitDeclarator, ScopedStatement, empty, eval, block, declare, when, while, do_while, for, break, continue, return, label, ScopedBranch, absent, branch, ScopedStatements, nil, cons, ScopedProgram, function_at}
+use Rattle.lz_tree.specs.ScopedTrees.{ScopedExpression, constant, null, text, object, address, paren, unary, cast, binary, choose, assign, step, call, lvalue, ScopedIndex, whole, element, ScopedExpressions, none, and, ScopedInitializer, nothing, single, listed, ScopedInitDeclarator, ScopedStatement, empty, eval, block, declare, when, while, do_while, for, break, continue, return, label, ScopedBranch, absent, branch, ScopedStatements, nil, cons, ScopedProgram, function_at}
 use Rattle.lz_tree.specs.WellFormed.{is_logical}
-use Rattle.lz_tree.specs.WellScoped.{Setting, Form, some_value, no_attribute, format, start, new_thread, made_thread, mutex, cond, IsScoped, IsIndex, AreValues, AreArguments, IsArgument, IsIndexed, IsStart, IsNoAttribute, IsFormat, takes_more, forms_of, number_of, MayTest, MayScope, IsFirst, IsDeclared, AreDeclared, IsReturned, IsCode, IsBranch, AreCode, IsWellScoped, MayCall, setting_of}
+use Rattle.lz_tree.specs.WellScoped.{Setting, no_attribute, new_thread, made_thread, mutex, cond, IsScoped, IsIndex, AreValues, AreArguments, IsIndexed, IsStart, IsNoAttribute, IsFormat, takes_more, forms_of, number_of, MayTest, MayScope, IsFirst, IsDeclared, AreDeclared, IsReturned, IsCode, IsBranch, AreCode, IsWellScoped, setting_of}
 use Rattle.lz_model.specs.CodeTraces.{is_object_argument, is_division}
 use Rattle.lz_bound.specs.BoundedTrees as tree
-use Rattle.lz_bound.specs.CreateSites.{named_by, started_in, call_sites, sites, lvalue_sites, index_sites, all_sites, optional_sites, initializer_sites, declarators_sites, times, code_sites, branch_sites, parts_sites, no_bodies, tree_sites, sites_within}
+use Rattle.lz_bound.specs.CreateSites.{named_by, started_in, call_sites, sites, index_sites, all_sites, optional_sites, initializer_sites, declarators_sites, times, code_sites, branch_sites, parts_sites, no_bodies, tree_sites, sites_within}
 use Rattle.lz_unwind.specs.Moved.{shift, shift_index, shift_all, has_call, index_has_call, all_have_call}
-use Rattle.lz_unwind.specs.Pieces.{Made, made, Callees, unless_call, at_temp, inside_of, tested, at_place, inside_place, head_kind, tail_kinds, operands, shape_of}
+use Rattle.lz_unwind.specs.Pieces.{Made, made, Callees, unless_call, at_temp, inside_of, at_place, inside_place, head_kind, tail_kinds, operands, shape_of}
 use Rattle.lz_unwind.specs.Translation.{into, index_into, arguments_into, known_into, handed_into, printed_into, discarded, set_made, test_made, test_of, unless_made, step_made, cleared, listed_made, integer_made, object_made, declarators_made, turns_made, do_turns_made, is_silent, eval_made, return_made, statement_made, branch_made, statements_made}
 use Rattle.lz_unwind.specs.Inlining.{callees, inline_within}
 use Rattle.lz_unwind.proofs.MovedLemmas.{or_left, or_right}
-use Rattle.lz_unwind.proofs.PiecesLemmas.{takes_object, thing_handed, rest_calls_none, more_values}
+use Rattle.lz_unwind.proofs.PiecesLemmas.{thing_handed, rest_calls_none, more_values}
 
 -- ---- expressions with no call
 
@@ -201,21 +201,21 @@ module _ (bodies : ℕ → List ℕ) (w : Setting) (env : Callees) (kept : (f i 
     into_sites (binary line op a b kind) x k m f =
         let m' = (into env o a m (kind_of a) (suc m)).next in
         by_call (has_call a || has_call b) _ _ _ (λ c. shift_sites bodies o (binary line op a b kind) c)
-          (λ c. operands_sites line op (kind_of a) (kind_of b) kind x k m (into env o a m (kind_of a) (suc m)) (λ n. into env o b n (kind_of b) (suc n)) ∙
-            ap₂ ◌++◌ (into_sites a m (kind_of a) (suc m) f.0) (into_sites b m' (kind_of b) (suc m') f.2))
+        (λ c. operands_sites line op (kind_of a) (kind_of b) kind x k m (into env o a m (kind_of a) (suc m)) (λ n. into env o b n (kind_of b) (suc n)) ∙
+        ap₂ ◌++◌ (into_sites a m (kind_of a) (suc m) f.0) (into_sites b m' (kind_of b) (suc m') f.2))
     into_sites (choose line a b c kind) x k m f =
         let m' = (into env o a m (kind_of a) (suc m)).next in let m2 = (into env o b m' (kind_or kind) (suc m')).next in
         by_call (has_call a || (has_call b || has_call c)) _ _ _ (λ d. shift_sites bodies o (choose line a b c kind) d)
-          (λ d. ap₂ ◌++◌ (into_sites a m (kind_of a) (suc m) f.0) (append-nil (tree_sites (into env o b m' (kind_or kind) (suc m')).tree ++ tree_sites (into env o c m' (kind_or kind) m2).tree) ∙
-            ap₂ ◌++◌ (into_sites b m' (kind_or kind) (suc m') f.2) (into_sites c m' (kind_or kind) m2 f.3)))
+        (λ d. ap₂ ◌++◌ (into_sites a m (kind_of a) (suc m) f.0) (append-nil (tree_sites (into env o b m' (kind_or kind) (suc m')).tree ++ tree_sites (into env o c m' (kind_or kind) m2).tree) ∙
+        ap₂ ◌++◌ (into_sites b m' (kind_or kind) (suc m') f.2) (into_sites c m' (kind_or kind) m2 f.3)))
     into_sites (assign line None (lvalue at meant index checked) e kind) x k m f =
         let m' = (index_into env o index m (suc m)).next in
         by_call (index_has_call index || has_call e) _ _ _ (λ c. shift_sites bodies o (assign line None (lvalue at meant index checked) e kind) c)
-          (λ c. ap₂ ◌++◌ (index_into_sites meant index checked m (suc m) f.1) (rw (at_temp_sites m index) (append-nil (tree_sites (into env o e m' (kind_of e) (suc m')).tree) ∙ into_sites e m' (kind_of e) (suc m') f.2)))
+        (λ c. ap₂ ◌++◌ (index_into_sites meant index checked m (suc m) f.1) (rw (at_temp_sites m index) (append-nil (tree_sites (into env o e m' (kind_of e) (suc m')).tree) ∙ into_sites e m' (kind_of e) (suc m') f.2)))
     into_sites (assign line (Some op) (lvalue at meant index checked) e kind) x k m f =
         let m' = (index_into env o index m (suc m)).next in
         by_call (index_has_call index || has_call e) _ _ _ (λ c. shift_sites bodies o (assign line (Some op) (lvalue at meant index checked) e kind) c)
-          (λ c. ap₂ ◌++◌ (index_into_sites meant index checked m (suc m) f.1) (rw (inside_sites at meant m index, at_temp_sites m index) (append-nil (tree_sites (into env o e (suc m') (kind_of e) (suc (suc m'))).tree) ∙ into_sites e (suc m') (kind_of e) (suc (suc m')) f.2)))
+        (λ c. ap₂ ◌++◌ (index_into_sites meant index checked m (suc m) f.1) (rw (inside_sites at meant m index, at_temp_sites m index) (append-nil (tree_sites (into env o e (suc m') (kind_of e) (suc (suc m'))).tree) ∙ into_sites e (suc m') (kind_of e) (suc (suc m')) f.2)))
     into_sites (step line (lvalue at meant index checked) going before kind) x k m f = by_call (index_has_call index) _ _ _ (λ c. shift_index_sites bodies o index c)
         (λ c. rw (at_temp_sites m index, append-nil) (index_into_sites meant index checked m (suc m) f.1))
     into_sites (call line (Routine g) args kind) x k m f =
@@ -302,7 +302,7 @@ module _ (bodies : ℕ → List ℕ) (w : Setting) (env : Callees) (kept : (f i 
     known_sites line known.CondWait (and one (and two none)) kind x k m c f =
         let m' = (handed_into env o one m).next in
         two_sites (tree_sites (handed_into env o one m).tree) (sites bodies one) (tree_sites (inside_place one m)) (tree_sites (handed_into env o two m').tree) (sites bodies two) (sites no_bodies (at_place o true one m)) (sites no_bodies (at_place o false two m'))
-          (handed_sites one m f.0.2) (inside_place_sites m one) (handed_sites two m' f.1.0.2) (at_place_sites o true m one (thing_handed w cond [] one refl f.0)) (at_place_sites o false m' two (thing_handed w mutex [] two refl f.1.0))
+        (handed_sites one m f.0.2) (inside_place_sites m one) (handed_sites two m' f.1.0.2) (at_place_sites o true m one (thing_handed w cond [] one refl f.0)) (at_place_sites o false m' two (thing_handed w mutex [] two refl f.1.0))
     known_sites line known.CondWait (and one (and two (and e rest))) kind x k m c f = absurd (false≢true f.1.1.0)
     known_sites line known.Create none kind x k m c f = absurd f
     known_sites line known.Create (and thread none) kind x k m c f = absurd f.1
@@ -312,10 +312,10 @@ module _ (bodies : ℕ → List ℕ) (w : Setting) (env : Callees) (kept : (f i 
         let m' = (handed_into env o thread m).next in
         let fa = f.1.0.1 in let fb = f.1.1.0 in
         create_sites (tree_sites (handed_into env o thread m).tree) (sites bodies thread) (tree_sites (inside_place thread m)) (tree_sites (into env o e m' (kind_of e) (suc m')).tree) (sites bodies e) (sites no_bodies (at_place o true thread m))
-          (sites no_bodies (shift o attribute)) (sites no_bodies (shift o begins)) (sites bodies attribute) (sites bodies begins) (named_by (shift o begins)) (named_by begins)
-          (handed_sites thread m f.0.2) (inside_place_sites m thread) (into_sites e m' (kind_of e) (suc m') f.1.1.1.0.0) (at_place_sites o true m thread (thing_handed w new_thread [] thread refl f.0))
-          (shift_sites bodies o attribute (attribute_calls_none attribute fa) ∙ attribute_sites bodies attribute fa) (shift_sites bodies o begins (start_calls_none w begins fb) ∙ start_sites bodies w begins fb)
-          (attribute_sites bodies attribute fa) (start_sites bodies w begins fb) (named_by-shift o begins)
+        (sites no_bodies (shift o attribute)) (sites no_bodies (shift o begins)) (sites bodies attribute) (sites bodies begins) (named_by (shift o begins)) (named_by begins)
+        (handed_sites thread m f.0.2) (inside_place_sites m thread) (into_sites e m' (kind_of e) (suc m') f.1.1.1.0.0) (at_place_sites o true m thread (thing_handed w new_thread [] thread refl f.0))
+        (shift_sites bodies o attribute (attribute_calls_none attribute fa) ∙ attribute_sites bodies attribute fa) (shift_sites bodies o begins (start_calls_none w begins fb) ∙ start_sites bodies w begins fb)
+        (attribute_sites bodies attribute fa) (start_sites bodies w begins fb) (named_by-shift o begins)
     known_sites line known.Create (and thread (and attribute (and begins (and e (and e2 rest))))) kind x k m c f = absurd (false≢true f.1.1.1.1.0)
     known_sites line known.NondetInt none kind x k m c f = absurd (false≢true c)
     known_sites line known.NondetInt (and e rest) kind x k m c f = absurd (false≢true f.0)
@@ -420,16 +420,16 @@ module _ (bodies : ℕ → List ℕ) (w : Setting) (env : Callees) (kept : (f i 
           ap₂ ◌++◌ (test_sites (has_call test) test m refl f.0) (ap₂ ◌++◌ (statement_sites b first m1 f.2) (else_sites b second m2 f.3))
       statement_sites b (while line test body) m f =
           turns_sites (unless_made env o (Some test)) (λ k. statement_made env o w.locals n result body k) (step_made env o None) (sites bodies test) (code_sites bodies n body) []
-            (λ k. unless_sites (Some test) k (f.0, f.1)) (λ k. statement_sites true body k f.2) (λ k. step_sites None k tt) n m ∙
+          (λ k. unless_sites (Some test) k (f.0, f.1)) (λ k. statement_sites true body k f.2) (λ k. step_sites None k tt) n m ∙
           ap (λ (xs : List ℕ). times bodies n (sites bodies test ++ xs) ++ sites bodies test) (append-nil (code_sites bodies n body))
       statement_sites b (do_while line body test) m f =
           do_turns_sites (unless_made env o (Some test)) (λ k. statement_made env o w.locals n result body k) (sites bodies test) (code_sites bodies n body)
-            (λ k. unless_sites (Some test) k (f.1, f.2)) (λ k. statement_sites true body k f.0) n m
+          (λ k. unless_sites (Some test) k (f.1, f.2)) (λ k. statement_sites true body k f.0) n m
       statement_sites b (for line first test change body) m f =
           let m1 = (statement_made env o w.locals n result first m).next in
           ap₂ ◌++◌ (statement_sites false first m f.0)
-            (turns_sites (unless_made env o test) (λ k. statement_made env o w.locals n result body k) (step_made env o change) (optional_sites bodies test) (code_sites bodies n body) (optional_sites bodies change)
-              (λ k. unless_sites test k f.1) (λ k. statement_sites true body k f.3) (λ k. step_sites change k f.2) n m1)
+          (turns_sites (unless_made env o test) (λ k. statement_made env o w.locals n result body k) (step_made env o change) (optional_sites bodies test) (code_sites bodies n body) (optional_sites bodies change)
+          (λ k. unless_sites test k f.1) (λ k. statement_sites true body k f.3) (λ k. step_sites change k f.2) n m1)
       statement_sites b (break line) m f = refl
       statement_sites b (continue line) m f = refl
       statement_sites b (return line value) m f = return_sites value m f

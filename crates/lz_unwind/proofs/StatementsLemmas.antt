@@ -1,38 +1,34 @@
 -- Statements, calls in them inlined and loops unwound: both sides correspond.
-use Rattle.std.proofs.Common.{◌≡◌, ◌≢◌, ℕ, zero, suc, ◌+◌, ◌<◌, ◌≤◌, ◌⊎◌, inl, inr, Bool, true, false, not, ◌||◌, ◌&&◌, List, [], ◌∷◌, length, Option, Some, None, refl, sym, ap, ◌∙◌, subst, arith, add-zero, le_refl, le_trans}
+use Rattle.std.proofs.Common.{◌≡◌, ℕ, zero, suc, ◌+◌, ◌<◌, ◌≤◌, inl, inr, Bool, true, false, not, ◌||◌, ◌&&◌, List, [], ◌∷◌, length, Option, Some, None, refl, sym, ap, ◌∙◌, subst, arith}
 use Rattle.std.proofs.lemmas.Bool.{true≢false, false≢true}
-use Rattle.std.specs.Prelude.{⊤}
-use Rattle.lz_base.specs.Words.{value_bound, is_true, converted}
+use Rattle.lz_base.specs.Words.{is_true}
 use Rattle.lz_base.specs.declared.word.BreakKind.TheVariants as kinds
 use Rattle.lz_base.specs.declared.word.IntType.{IntType}
-use Rattle.lz_base.specs.declared.word.IntType.TheVariants.{Int}
 use Rattle.lz_base.specs.declared.operator.Binary.{Binary}
-use Rattle.lz_base.specs.declared.operator.Binary.TheVariants as ops
 use Rattle.lz_tree.specs.declared.scoped.Object.{Object}
 use Rattle.lz_tree.specs.declared.scoped.Object.TheVariants.{Local, Cell, Mutex, Cond, Handle, Routine, Known}
-use Rattle.lz_tree.specs.ScopedTrees.{ScopedExpression, constant, null, text, object, address, paren, unary, cast, binary, choose, assign, step, call, Lvalue, lvalue, ScopedIndex, whole, element, ScopedExpressions, none, and, ScopedInitializer, nothing, single, listed, ScopedInitDeclarator, ScopedStatement, empty, eval, block, declare, when, while, do_while, for, break, continue, return, label, ScopedBranch, absent, branch, ScopedStatements, nil, cons}
+use Rattle.lz_tree.specs.ScopedTrees.{ScopedExpression, constant, null, text, object, address, paren, unary, cast, binary, choose, assign, step, call, ScopedExpressions, none, and, ScopedInitializer, nothing, single, listed, ScopedInitDeclarator, ScopedStatement, empty, eval, block, declare, when, while, do_while, for, break, continue, return, label, ScopedBranch, absent, branch, ScopedStatements, nil, cons}
 use Rattle.lz_tree.specs.WellFormed.{is_logical}
-use Rattle.lz_tree.specs.WellScoped.{Setting, IsInteger, IsThread, IsScoped, HasValue, AreValues, number_of, MayTest, MayScope, IsFirst, IsDeclared, AreDeclared, IsReturned, IsCode, IsBranch, AreCode}
-use Rattle.lz_model.specs.Actions.{Act}
-use Rattle.lz_model.specs.Behaviours.{Outcome, done, exits, cut, Behaviour, ends_with, halts, updates, stays, GoesOn, ◌and_then◌, ◌gives◌, picks}
-use Rattle.lz_model.specs.CodeTraces.{Locals, Calls, no_calls, put, set_local, set_handle, kind_of, kind_of_object, len_of, loc, inputs, IsValueOf, checks_divisor, right_operand, operated, is_division, checks, expression_trace, decides, arbitrary_trace, zeros_trace, no_threads_trace, listed_trace, integer_trace, object_trace, declarators_trace, Flow, normal, breaks, continues, returns, led_on, turned, turns, do_turns, test_trace, change_trace, return_trace, statement_trace, branch_trace, statements_trace}
+use Rattle.lz_tree.specs.WellScoped.{Setting, IsScoped, HasValue, AreValues, MayTest, MayScope, IsFirst, IsDeclared, AreDeclared, IsReturned, IsCode, IsBranch, AreCode}
+use Rattle.lz_model.specs.Behaviours.{Behaviour, ends_with, ◌and_then◌, ◌gives◌, picks}
+use Rattle.lz_model.specs.CodeTraces.{Locals, Calls, set_local, set_handle, kind_of, checks_divisor, right_operand, operated, is_division, checks, expression_trace, decides, arbitrary_trace, zeros_trace, no_threads_trace, listed_trace, integer_trace, object_trace, declarators_trace, Flow, normal, breaks, continues, returns, led_on, test_trace, change_trace, return_trace, statement_trace, branch_trace, statements_trace}
 use Rattle.lz_agree.specs.Correspondence.{Corresponds, Quiet}
-use Rattle.lz_agree.proofs.QuietLemmas.{quiet_value, quiet_loc, quiet_tells, quiet_then}
-use Rattle.lz_agree.proofs.CorrespondsLemmas.{corresponds_value, corresponds_act, corresponds_halts, corresponds_chooses, corresponds_less, corresponds_then, corresponds_same_then, corresponds_quiet_left, corresponds_quiet_right, corresponds_quiet_tail, corresponds_gives_left, corresponds_gives_right, corresponds_picks, corresponds_quiets}
+use Rattle.lz_agree.proofs.QuietLemmas.{quiet_value, quiet_loc, quiet_then}
+use Rattle.lz_agree.proofs.CorrespondsLemmas.{corresponds_value, corresponds_act, corresponds_chooses, corresponds_less, corresponds_then, corresponds_same_then, corresponds_quiet_left, corresponds_quiet_right, corresponds_quiet_tail, corresponds_gives_left, corresponds_gives_right, corresponds_picks, corresponds_quiets}
 use Rattle.lz_agree.proofs.SameLemmas.{then_assoc, corresponds_same_right}
 use Rattle.lz_bound.specs.BoundedTrees as tree
 use Rattle.lz_bound.specs.BoundedTrees.{BoundedStatement, evals}
-use Rattle.lz_bound.specs.BoundedTraces.{Leaving, through, left, passes, caught, stores, bounded_trace}
-use Rattle.lz_unwind.specs.Relation.{Near, Kept, Into, Inlined, Chain}
-use Rattle.lz_unwind.specs.Moved.{moved, shift, has_call}
-use Rattle.lz_unwind.specs.Pieces.{Made, Callees, local, temp, unless_call, out_unless}
+use Rattle.lz_bound.specs.BoundedTraces.{Leaving, through, left, passes, stores, bounded_trace}
+use Rattle.lz_unwind.specs.Relation.{Near, Inlined, Chain}
+use Rattle.lz_unwind.specs.Moved.{shift, has_call}
+use Rattle.lz_unwind.specs.Pieces.{Callees, local, temp, unless_call, out_unless}
 use Rattle.lz_unwind.specs.Translation.{into, discarded, set_made, test_made, test_of, unless_made, step_made, cleared, listed_made, integer_made, object_made, declarators_made, is_silent, eval_made, return_made, statement_made, branch_made, statements_made}
 use Rattle.lz_unwind.proofs.CallsLemmas.{put_same, put_other, quiet_gives, corresponds_seq, corresponds_seq_tail, quiet_temp, quiet_stored, near_more, CallsCorrespond}
-use Rattle.lz_unwind.proofs.MovedLemmas.{after_plain, or_left, or_right, Steps, steps_same, near_put, near_handle, shift_corresponds, scoped_no_object}
+use Rattle.lz_unwind.proofs.MovedLemmas.{after_plain, near_put, near_handle, shift_corresponds}
 use Rattle.lz_unwind.proofs.PiecesLemmas.{Spilled, chain_start, chain_then, chain_steps, chain_more, into_chain, by_call}
 use Rattle.lz_unwind.proofs.IntoLemmas.{dropped, to_spill, into_corresponds}
 use Rattle.lz_unwind.proofs.TurnsLemmas.{turns_grow, inlined_then, inlined_more, Leading, through_passes, left_passes, loop_of, turns_correspond, do_turns_correspond}
-use Rattle.lz_unwind.proofs.GrowsLemmas.{into_grows, discarded_grows, set_grows, test_grows, unless_made_grows, step_grows, listed_grows, object_grows, declarators_grow, statement_grows, branch_grows, statements_grow}
+use Rattle.lz_unwind.proofs.GrowsLemmas.{into_grows, unless_made_grows, step_grows, statement_grows, branch_grows, statements_grow}
 
 -- ---- local values
 
@@ -41,7 +37,7 @@ chain_put : {o l m m' : ℕ} {t s1 t1 : Locals} (i x v : ℕ) → x ≡ o + i �
 chain_put {o} {l} {m} {m'} {t} {s1} {t1} i x v e b c = subst (λ (y : ℕ). Chain o l m m' t (set_local i v s1) (set_local y v t1)) (sym e) (record {
   near = near_put i v b c.near;
   same = λ k p q. put_other (o + i) v t1.frame k (λ z. elim q [ inl y ↦ omega arith | inr y ↦ omega arith ]) ∙ c.same k p q;
-  grows = c.grows
+  grows = c.grows;
 })
 
 chain_handle : {o l m m' : ℕ} {t s1 t1 : Locals} (i v : ℕ) → Chain o l m m' t s1 t1 → Chain o l m m' t (set_handle i v s1) (set_handle i v t1)
@@ -59,7 +55,7 @@ returned {o} {l} {m} {m'} {v} {t} {s'} {t'} room w = subst (λ (z : Locals). Inl
   unused = λ k h. put_other (o + l) v w.before.frame k (λ e. omega (arith, room, w.chain.grows)) ∙ w.chain.near.unused k h;
   handles = w.chain.near.handles;
   kept = record { same = λ k p q. put_other (o + l) v w.before.frame k (λ e. elim q [ inl y ↦ omega arith | inr y ↦ omega arith ]) ∙ w.chain.same k p q };
-  value = put_same (o + l) v w.before.frame
+  value = put_same (o + l) v w.before.frame;
 })
 
 returned_none : {o l m : ℕ} {s t : Locals} → Near o l m s t → Inlined o l m m t 0 s t
@@ -140,9 +136,11 @@ silent_quiet calls (binary line op a b kind) s h =
     let plain = and_left (not (is_logical op || is_division op)) (is_silent a && is_silent b) h in
     let k = and_right (not (is_logical op || is_division op)) (is_silent a && is_silent b) h in
     let p = silent_quiet calls a s (and_left (is_silent a) (is_silent b) k) in
-    let q = silent_quiet calls b s (and_right (is_silent a) (is_silent b) k) in
-    (operated op (kind_of a) (kind_of b) p.0 q.0, quiet_then p.1 (rw (after_plain line op (kind_of a) (kind_of b) (expression_trace calls b) p.0 (neither_left (is_logical op) (is_division op) plain))
-      (quiet_then q.1 (quiet_gives (quiet_divisor line op (right_operand op (kind_of a) (kind_of b) q.0) (neither_right (is_logical op) (is_division op) plain))))))
+    let q = silent_quiet calls b s (and_right (is_silent a) (is_silent b) k) in (
+      operated op (kind_of a) (kind_of b) p.0 q.0,
+      quiet_then p.1 (rw (after_plain line op (kind_of a) (kind_of b) (expression_trace calls b) p.0 (neither_left (is_logical op) (is_division op) plain))
+          (quiet_then q.1 (quiet_gives (quiet_divisor line op (right_operand op (kind_of a) (kind_of b) q.0) (neither_right (is_logical op) (is_division op) plain))))),
+    )
 silent_quiet calls (text line kind) s h = absurd (false≢true h)
 silent_quiet calls (object of kind) s h = absurd (false≢true h)
 silent_quiet calls (address line of kind) s h = absurd (false≢true h)
@@ -201,18 +199,22 @@ module _ {Back : Type 0} (w : Setting) (calls : Calls) (env : Callees) (o : ℕ)
   set_corresponds : (e : ScopedExpression) (x : ℕ) (k : IntType) (m : ℕ) {s t : Locals} → IsScoped w e → HasValue e → Near o w.locals m s t →
       Corresponds Back (expression_trace calls e) s (bounded_trace (set_made env o e x k m).tree) t (λ v s' u t'. (u ≡ through) × Written o w.locals m (set_made env o e x k m).next x t v s' t')
   set_corresponds e x k m {s} {t} f h n = by_call (has_call e) _ _ (λ m' v s' u t'. (u ≡ through) × Written o w.locals m m' x t v s' t')
-      (λ c. corresponds_quiet_tail (shift_corresponds w o m calls e c f n) (λ v s' u t' g. (through, set_local x u t', quiet_stored (kind_of (shift o e)) x u k,
-        (refl, record { before = t'; chain = chain_steps (chain_start n) g.1; after = ap (λ (z : ℕ). set_local x z t') g.0 }))))
+      (λ c. corresponds_quiet_tail (shift_corresponds w o m calls e c f n) (λ v s' u t' g. (
+        through,
+        set_local x u t',
+        quiet_stored (kind_of (shift o e)) x u k,
+        (refl, record { before = t'; chain = chain_steps (chain_start n) g.1; after = ap (λ (z : ℕ). set_local x z t') g.0 }),
+      )))
       (λ c. corresponds_seq_tail {Mid = λ v s' t'. Spilled o w.locals m (into env o e m (kind_of e) (suc m)).next t v s' t'} (spill e m f h n)
-        (λ v s1 t1 g. (through, set_local x v t1, quiet_then (quiet_temp m v (kind_of e) g.value) (quiet_stored (kind_of e) x v k), (refl, record { before = t1; chain = g.chain; after = refl }))))
+      (λ v s1 t1 g. (through, set_local x v t1, quiet_then (quiet_temp m v (kind_of e) g.value) (quiet_stored (kind_of e) x v k), (refl, record { before = t1; chain = g.chain; after = refl }))))
 
   -- a value, and what follows on both sides: on the tree's the value is stored
   set_then : (b : Bool) (e : ScopedExpression) (x : ℕ) (k : IntType) (m : ℕ) {s t : Locals} {next : ℕ → Behaviour Locals Flow} (Post : ℕ → Flow → Locals → Leaving → Locals → Type 0) → has_call e ≡ b → IsScoped w e → HasValue e → Near o w.locals m s t →
       ((m' v : ℕ) (s1 t1 : Locals) → Chain o w.locals m m' t s1 t1 → Corresponds Back (next v) s1 (stores k (Some (local x k)) v) t1 (Post m')) →
       Corresponds Back (expression_trace calls e and_then next) s (bounded_trace (unless_call b (record { tree = evals (shift o e) (Some (local x k)); next = m })
-        (record { tree = tree.seq (into env o e m (kind_of e) (suc m)).tree (evals (temp m (kind_of e)) (Some (local x k))); next = (into env o e m (kind_of e) (suc m)).next })).tree) t
-        (Post (unless_call b (record { tree = evals (shift o e) (Some (local x k)); next = m })
-        (record { tree = tree.seq (into env o e m (kind_of e) (suc m)).tree (evals (temp m (kind_of e)) (Some (local x k))); next = (into env o e m (kind_of e) (suc m)).next })).next)
+      (record { tree = tree.seq (into env o e m (kind_of e) (suc m)).tree (evals (temp m (kind_of e)) (Some (local x k))); next = (into env o e m (kind_of e) (suc m)).next })).tree) t
+      (Post (unless_call b (record { tree = evals (shift o e) (Some (local x k)); next = m })
+      (record { tree = tree.seq (into env o e m (kind_of e) (suc m)).tree (evals (temp m (kind_of e)) (Some (local x k))); next = (into env o e m (kind_of e) (suc m)).next })).next)
   set_then false e x k m Post c f h n rest = corresponds_same_then (shift_corresponds w o m calls e c f n) (λ v s1 t1 g. rest m v s1 t1 (chain_steps (chain_start n) g))
   set_then true e x k m Post c f h n rest = corresponds_seq (spill e m f h n) (λ v s1 t1 g. corresponds_quiet_right (quiet_temp m v (kind_of e) g.value) (rest (into env o e m (kind_of e) (suc m)).next v s1 t1 g.chain))
 
@@ -221,7 +223,7 @@ module _ {Back : Type 0} (w : Setting) (calls : Calls) (env : Callees) (o : ℕ)
   test_corresponds : (b : Bool) (e : ScopedExpression) (m : ℕ) (line : ℕ) (A B : BoundedStatement) {s t : Locals} {next : Bool → Behaviour Locals Flow} {Post : Flow → Locals → Leaving → Locals → Type 0} → has_call e ≡ b → IsScoped w e → HasValue e → Near o w.locals m s t →
       ((yes_ : Bool) (s1 t1 : Locals) → Chain o w.locals m (unless_call b (record { tree = tree.nothing; next = m }) (into env o e m (kind_of e) (suc m))).next t s1 t1 → Corresponds Back (next yes_) s1 (picks yes_ (bounded_trace A) (bounded_trace B)) t1 Post) →
       Corresponds Back (decides line (expression_trace calls e) next) s
-        (bounded_trace (tree.seq (unless_call b (record { tree = tree.nothing; next = m }) (into env o e m (kind_of e) (suc m))).tree (tree.when (test_of env o e b m) A B))) t Post
+      (bounded_trace (tree.seq (unless_call b (record { tree = tree.nothing; next = m }) (into env o e m (kind_of e) (suc m))).tree (tree.when (test_of env o e b m) A B))) t Post
   test_corresponds false e m line A B c f h n rest = corresponds_quiet_right quiet_value (corresponds_same_then (shift_corresponds w o m calls e c f n) (λ v s1 t1 g.
       corresponds_quiet_left quiet_loc (corresponds_quiet_right quiet_loc (rest (is_true v) s1 t1 (chain_steps (chain_start n) g)))))
   test_corresponds true e m line A B c f h n rest = corresponds_seq (spill e m f h n) (λ v s1 t1 g.
@@ -238,15 +240,15 @@ module _ {Back : Type 0} (w : Setting) (calls : Calls) (env : Callees) (o : ℕ)
       ((s1 t1 : Locals) → Chain o w.locals m (unless_call b (record { tree = tree.nothing; next = m }) (into env o e m (kind_of e) (suc m))).next t s1 t1 → Corresponds Back (next true) s1 (bounded_trace rest) t1 Post) →
       ((s1 t1 : Locals) → Chain o w.locals m (unless_call b (record { tree = tree.nothing; next = m }) (into env o e m (kind_of e) (suc m))).next t s1 t1 → Corresponds Back (next false) s1 (ends_with (left 0)) t1 Post) →
       Corresponds Back (decides line (expression_trace calls e) next) s
-        (bounded_trace (tree.seq (tree.seq (unless_call b (record { tree = tree.nothing; next = m }) (into env o e m (kind_of e) (suc m))).tree (out_unless (test_of env o e b m))) rest)) t Post
+      (bounded_trace (tree.seq (tree.seq (unless_call b (record { tree = tree.nothing; next = m }) (into env o e m (kind_of e) (suc m))).tree (out_unless (test_of env o e b m))) rest)) t Post
   unless_corresponds false e m line rest next Post c f h n holds fails =
       corresponds_same_right (then_assoc _ _ _) (corresponds_quiet_right quiet_value (corresponds_same_right (then_assoc _ _ _) (corresponds_same_then (shift_corresponds w o m calls e c f n) (λ v s1 t1 g.
       corresponds_quiet_left quiet_loc (corresponds_same_right (then_assoc _ _ _) (corresponds_quiet_right quiet_loc
-        (unless_by (is_true v) (bounded_trace rest) next (holds s1 t1 (chain_steps (chain_start n) g)) (fails s1 t1 (chain_steps (chain_start n) g)))))))))
+      (unless_by (is_true v) (bounded_trace rest) next (holds s1 t1 (chain_steps (chain_start n) g)) (fails s1 t1 (chain_steps (chain_start n) g)))))))))
   unless_corresponds true e m line rest next Post c f h n holds fails =
       corresponds_same_right (then_assoc _ _ _) (corresponds_seq_then (bounded_trace (out_unless (temp m (kind_of e)))) (λ u. passes u (bounded_trace rest)) (spill e m f h n) (λ v s1 t1 g.
       corresponds_quiet_left quiet_loc (corresponds_same_right (then_assoc _ _ _) (corresponds_quiet_right (quiet_temp m v (kind_of e) g.value) (corresponds_same_right (then_assoc _ _ _) (corresponds_quiet_right quiet_loc
-        (unless_by (is_true v) (bounded_trace rest) next (holds s1 t1 g.chain) (fails s1 t1 g.chain))))))))
+      (unless_by (is_true v) (bounded_trace rest) next (holds s1 t1 g.chain) (fails s1 t1 g.chain))))))))
 
   tests_correspond : (line : ℕ) (test : Option ScopedExpression) → MayTest w test → (m : ℕ) (s t : Locals) (next : Bool → Behaviour Locals Flow) (rest : BoundedStatement) (Post : Flow → Locals → Leaving → Locals → Type 0) → Near o w.locals m s t →
       ((s1 t1 : Locals) → Chain o w.locals m (unless_made env o test m).next t s1 t1 → Corresponds Back (next true) s1 (bounded_trace rest) t1 Post) →
@@ -279,11 +281,11 @@ module _ {Back : Type 0} (w : Setting) (calls : Calls) (env : Callees) (o : ℕ)
     where
       by : (v : ℕ) (s1 t1 before : Locals) → Chain o w.locals m (set_made env o e (o + i) kind m).next t (set_local i v s1) (set_local (o + i) v before) → t1 ≡ set_local (o + i) v before →
           ((s t : Locals) → Near o w.locals (set_made env o e (o + i) kind m).next s t → Corresponds Back (listed_trace calls line kind rest (suc i) more) s (bounded_trace (listed_made env o kind rest (suc i) more (set_made env o e (o + i) kind m).next).tree) t
-            (λ flow s' u t'. (u ≡ through) × Chain o w.locals (set_made env o e (o + i) kind m).next (listed_made env o kind rest (suc i) more (set_made env o e (o + i) kind m).next).next t s' t')) →
+          (λ flow s' u t'. (u ≡ through) × Chain o w.locals (set_made env o e (o + i) kind m).next (listed_made env o kind rest (suc i) more (set_made env o e (o + i) kind m).next).next t s' t')) →
           Corresponds Back (listed_trace calls line kind rest (suc i) more) (set_local i v s1) (bounded_trace (listed_made env o kind rest (suc i) more (set_made env o e (o + i) kind m).next).tree) t1
-            (λ flow s' u t'. (u ≡ through) × Chain o w.locals m (listed_made env o kind rest (suc i) more (set_made env o e (o + i) kind m).next).next t s' t')
+          (λ flow s' u t'. (u ≡ through) × Chain o w.locals m (listed_made env o kind rest (suc i) more (set_made env o e (o + i) kind m).next).next t s' t')
       by v s1 t1 before c e_ again = subst (λ (z : Locals). Corresponds Back (listed_trace calls line kind rest (suc i) more) (set_local i v s1) (bounded_trace (listed_made env o kind rest (suc i) more (set_made env o e (o + i) kind m).next).tree) z
-            (λ flow s' u t'. (u ≡ through) × Chain o w.locals m (listed_made env o kind rest (suc i) more (set_made env o e (o + i) kind m).next).next t s' t')) (sym e_)
+          (λ flow s' u t'. (u ≡ through) × Chain o w.locals m (listed_made env o kind rest (suc i) more (set_made env o e (o + i) kind m).next).next t s' t')) (sym e_)
           (corresponds_less (again (set_local i v s1) (set_local (o + i) v before) c.near) (λ flow s' u t' h. (h.0, chain_then c h.1)))
 
   integer_corresponds : (line first len : ℕ) (kind : IntType) (value : ScopedInitializer) (m : ℕ) {s t : Locals} → first + len ≤ w.locals → 1 ≤ len → IsFirst w len value → Near o w.locals m s t →
@@ -318,7 +320,7 @@ module _ {Back : Type 0} (w : Setting) (calls : Calls) (env : Callees) (o : ℕ)
         Corresponds Back (expression_trace calls e gives λ _. normal) s (bounded_trace (eval_made env o w.locals n result e a m).tree) t (λ flow s' u t'. Leading b o w.locals m (eval_made env o w.locals n result e a m).next t flow s' u t')
     eval_corresponds b true e m {s} h f near =
         corresponds_quiets (quiet_gives (silent_quiet calls e s h).1) quiet_value
-          (λ acts after v k. record { is = (shift_corresponds {Back = Back} w o m calls e (silent_calls_none e h) f near).lasts acts after k.is.0 k.is.1 }) (record { is = (refl, chain_start near) })
+        (λ acts after v k. record { is = (shift_corresponds {Back = Back} w o m calls e (silent_calls_none e h) f near).lasts acts after k.is.0 k.is.1 }) (record { is = (refl, chain_start near) })
     eval_corresponds b false e m h f near = corresponds_gives_left (corresponds_less (discarded_corresponds e m f near) (λ v s' u t' g. record { is = g }))
 
     return_corresponds : (b : Bool) (value : Option ScopedExpression) (m : ℕ) {s t : Locals} → IsReturned w gives_ value → Near o w.locals m s t →
@@ -326,7 +328,7 @@ module _ {Back : Type 0} (w : Setting) (calls : Calls) (env : Callees) (o : ℕ)
     return_corresponds b None m f near = corresponds_value (record { is = (refl, returned_none near) })
     return_corresponds b (Some e) m f near = let g = value_returned gives_ e f in
         corresponds_gives_left (corresponds_seq_tail {Mid = λ v s' t'. Written o w.locals m (set_made env o e (o + w.locals) result m).next (o + w.locals) _ v s' t'} (set_corresponds e (o + w.locals) result m g.0 g.1 near)
-          (λ v s1 t1 h. (left 2, t1, quiet_value, record { is = (refl, returned near.room h) })))
+        (λ v s1 t1 h. (left 2, t1, quiet_value, record { is = (refl, returned near.room h) })))
       where
         value_returned : (k : Option IntType) (e : ScopedExpression) → IsReturned w k (Some e) → IsScoped w e × HasValue e
         value_returned None e f = absurd f
@@ -343,31 +345,31 @@ module _ {Back : Type 0} (w : Setting) (calls : Calls) (env : Callees) (o : ℕ)
           let m1 = (test_made env o test m).next in let m2 = (statement_made env o w.locals n result first m1).next in
           test_corresponds (has_call test) test m line (statement_made env o w.locals n result first m1).tree (branch_made env o w.locals n result second m2).tree refl f.0 f.1 near (λ go s1 t1 c.
           corresponds_picks go
-            (λ _. corresponds_less (statement_corresponds b first m1 s1 t1 f.2 c.near) (λ flow s' u t' h. leads_more flow (branch_grows env o inline_grows w.locals n result second m2) (leads_then flow c h)))
-            (λ _. corresponds_less (branch_corresponds b second m2 s1 t1 f.3 (near_more (statement_grows env o inline_grows w.locals n result first m1) c.near))
-              (λ flow s' u t' h. leads_then flow (chain_more (statement_grows env o inline_grows w.locals n result first m1) c) h)))
+          (λ _. corresponds_less (statement_corresponds b first m1 s1 t1 f.2 c.near) (λ flow s' u t' h. leads_more flow (branch_grows env o inline_grows w.locals n result second m2) (leads_then flow c h)))
+          (λ _. corresponds_less (branch_corresponds b second m2 s1 t1 f.3 (near_more (statement_grows env o inline_grows w.locals n result first m1) c.near))
+          (λ flow s' u t' h. leads_then flow (chain_more (statement_grows env o inline_grows w.locals n result first m1) c) h)))
       statement_corresponds b (while line test body) m s t f near =
           corresponds_gives_right (corresponds_less (turns_correspond o w.locals (test_trace calls line (Some test)) (statement_trace calls n body) (change_trace calls None)
-            (unless_made env o (Some test)) (λ k. statement_made env o w.locals n result body k) (step_made env o None)
-            (unless_made_grows env o inline_grows (Some test)) (λ k. statement_grows env o inline_grows w.locals n result body k) (step_grows env o inline_grows None)
-            (tests_correspond line (Some test) (f.0, f.1)) (changes_correspond None tt) (λ k s1 t1 h. statement_corresponds true body k s1 t1 f.2 h) n m s t near)
-            (λ flow s' u t' g. loop_of u flow g))
+          (unless_made env o (Some test)) (λ k. statement_made env o w.locals n result body k) (step_made env o None)
+          (unless_made_grows env o inline_grows (Some test)) (λ k. statement_grows env o inline_grows w.locals n result body k) (step_grows env o inline_grows None)
+          (tests_correspond line (Some test) (f.0, f.1)) (changes_correspond None tt) (λ k s1 t1 h. statement_corresponds true body k s1 t1 f.2 h) n m s t near)
+          (λ flow s' u t' g. loop_of u flow g))
       statement_corresponds b (do_while line body test) m s t f near =
           corresponds_gives_right (corresponds_less (do_turns_correspond o w.locals (test_trace calls line (Some test)) (statement_trace calls n body) (change_trace calls None)
-            (unless_made env o (Some test)) (λ k. statement_made env o w.locals n result body k) (step_made env o None)
-            (unless_made_grows env o inline_grows (Some test)) (λ k. statement_grows env o inline_grows w.locals n result body k) (step_grows env o inline_grows None)
-            (tests_correspond line (Some test) (f.1, f.2)) (changes_correspond None tt) (λ k s1 t1 h. statement_corresponds true body k s1 t1 f.0 h) n m s t near)
-            (λ flow s' u t' g. loop_of u flow g))
+          (unless_made env o (Some test)) (λ k. statement_made env o w.locals n result body k) (step_made env o None)
+          (unless_made_grows env o inline_grows (Some test)) (λ k. statement_grows env o inline_grows w.locals n result body k) (step_grows env o inline_grows None)
+          (tests_correspond line (Some test) (f.1, f.2)) (changes_correspond None tt) (λ k s1 t1 h. statement_corresponds true body k s1 t1 f.0 h) n m s t near)
+          (λ flow s' u t' g. loop_of u flow g))
       statement_corresponds b (for line first test change body) m s t f near =
           let m1 = (statement_made env o w.locals n result first m).next in
           corresponds_then (statement_corresponds false first m s t f.0 near) (λ flow s1 u t1 h.
           led_then flow _ (λ e. absurd (false≢true e)) (turns_grow (unless_made env o test) (λ k. statement_made env o w.locals n result body k) (step_made env o change)
-              (unless_made_grows env o inline_grows test) (λ k. statement_grows env o inline_grows w.locals n result body k) (step_grows env o inline_grows change) n m1) h (λ s2 t2 near2.
+          (unless_made_grows env o inline_grows test) (λ k. statement_grows env o inline_grows w.locals n result body k) (step_grows env o inline_grows change) n m1) h (λ s2 t2 near2.
           corresponds_gives_right (corresponds_less (turns_correspond o w.locals (test_trace calls line test) (statement_trace calls n body) (change_trace calls change)
-            (unless_made env o test) (λ k. statement_made env o w.locals n result body k) (step_made env o change)
-            (unless_made_grows env o inline_grows test) (λ k. statement_grows env o inline_grows w.locals n result body k) (step_grows env o inline_grows change)
-            (tests_correspond line test f.1) (changes_correspond change f.2) (λ k s3 t3 h3. statement_corresponds true body k s3 t3 f.3 h3) n m1 s2 t2 near2)
-            (λ flow s' u t' g. loop_of u flow g))))
+          (unless_made env o test) (λ k. statement_made env o w.locals n result body k) (step_made env o change)
+          (unless_made_grows env o inline_grows test) (λ k. statement_grows env o inline_grows w.locals n result body k) (step_grows env o inline_grows change)
+          (tests_correspond line test f.1) (changes_correspond change f.2) (λ k s3 t3 h3. statement_corresponds true body k s3 t3 f.3 h3) n m1 s2 t2 near2)
+          (λ flow s' u t' g. loop_of u flow g))))
       statement_corresponds b (break line) m s t f near = corresponds_value (record { is = (refl, chain_start near, f) })
       statement_corresponds b (continue line) m s t f near = corresponds_value (record { is = (refl, chain_start near, f) })
       statement_corresponds b (return line value) m s t f near = return_corresponds b value m f near

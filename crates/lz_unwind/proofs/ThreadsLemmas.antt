@@ -1,12 +1,12 @@
 -- Calls to any depth, and whole threads.
-use Rattle.std.proofs.Common.{◌≡◌, ◌≢◌, ℕ, zero, suc, ◌+◌, ◌<◌, ◌≤◌, ◌⊎◌, inl, inr, Bool, true, false, List, [], ◌∷◌, ◌++◌, Option, Some, None, length, slice_index, refl, sym, ap, ◌∙◌, subst, arith, le_refl, le_trans, zero-add}
+use Rattle.std.proofs.Common.{◌≡◌, ℕ, zero, suc, ◌+◌, ◌<◌, ◌≤◌, Bool, true, false, List, [], ◌∷◌, ◌++◌, Option, Some, None, length, refl, sym, ap, ◌∙◌, subst, arith, le_refl, zero-add}
 use Rattle.std.proofs.lemmas.List.{get_or_past}
 use Rattle.std.proofs.lemmas.Bool.{false≢true}
 use Rattle.std.specs.Prelude.{⊤, ◌↔◌}
 use Rattle.lz_base.specs.declared.word.IntType.{IntType}
 use Rattle.lz_tree.specs.ScopedTrees.{ScopedProgram}
 use Rattle.lz_model.specs.Actions.{Act, is_loc, Start, started_by}
-use Rattle.lz_model.specs.Behaviours.{Outcome, done, exits, cut, Behaviour, halts, ◌gives◌}
+use Rattle.lz_model.specs.Behaviours.{Behaviour}
 use Rattle.lz_model.specs.CodeTraces.{Locals, frame_of, Flow, normal, breaks, continues, returns, statement_trace}
 use Rattle.lz_model.specs.Programs.{function_at, value_of, calls_within, begun, end_of, EndsThread, is_cut, is_done, is_left, numbered_after, CreatesFrom, IsThreadTrace}
 use Rattle.lz_model.specs.WithoutLoc.{left_out, without_loc, IsSeen}
@@ -14,8 +14,8 @@ use Rattle.lz_model.proofs.LocLemmas.{loc_starts_none}
 use Rattle.lz_agree.proofs.ActsLemmas.{but_loc_same, but_loc_joined}
 use Rattle.lz_agree.proofs.CorrespondsLemmas.{corresponds_less, corresponds_gives_left, corresponds_gives_right}
 use Rattle.lz_agree.specs.Correspondence.{SameButLoc, Simulated, Corresponds}
-use Rattle.lz_bound.specs.BoundedTraces.{Leaving, through, left, caught, bounded_trace, IsBoundedTrace}
-use Rattle.lz_bound.specs.BoundedTrees.{BoundedStatement, frame, stuck}
+use Rattle.lz_bound.specs.BoundedTraces.{Leaving, through, caught, bounded_trace, IsBoundedTrace}
+use Rattle.lz_bound.specs.BoundedTrees.{BoundedStatement}
 use Rattle.lz_unwind.proofs.CallsLemmas.{CallsCorrespond}
 use Rattle.lz_unwind.specs.Inlining.{callees, body_made, inline_within, thread_tree}
 use Rattle.lz_unwind.proofs.GrowsLemmas.{statement_grows}
@@ -23,7 +23,7 @@ use Rattle.lz_unwind.proofs.StatementsLemmas.{statement_corresponds}
 use Rattle.lz_unwind.proofs.TurnsLemmas.{Leading}
 use Rattle.lz_tree.specs.Kinds.{kind_or}
 use Rattle.lz_tree.specs.WellScoped.{IsWellScoped, MayCall, setting_of}
-use Rattle.lz_unwind.specs.Relation.{Near, Kept, Inlined, Chain}
+use Rattle.lz_unwind.specs.Relation.{Near, Inlined}
 
 -- ---- calls to any depth
 
@@ -53,18 +53,18 @@ module _ (p : ScopedProgram) (n : ℕ) (W : IsWellScoped p) where
   body_corresponds : (Back : Type 0) (d depth : ℕ) → CallsCorrespond Back (Callable d) (λ f. (function_at p f).locals) (calls_within p n depth) (inline_within p n d) →
       (f o m : ℕ) (s t : Locals) → Callable (suc d) f → Near o (function_at p f).locals m s t →
       Corresponds Back (statement_trace (calls_within p n depth) n (function_at p f).body) s (bounded_trace (body_made p n (inline_within p n d) f o m).tree) t
-        (λ flow s' w t'. Leading false o (function_at p f).locals m (body_made p n (inline_within p n d) f o m).next t flow s' w t')
+      (λ flow s' w t'. Leading false o (function_at p f).locals m (body_made p n (inline_within p n d) f o m).next t flow s' w t')
   body_corresponds Back d depth C f o m s t ok near =
       statement_corresponds (setting_of p W.plan f) (calls_within p n depth) (callees p (inline_within p n d)) o refl (grows_within d) (Callable d) C
-        (λ g may. (ok.1 g may, (W.each g may.there).room)) n (kind_or (function_at p f).gives) (function_at p f).gives false (function_at p f).body m s t (W.each f ok.0).body near
+      (λ g may. (ok.1 g may, (W.each g may.there).room)) n (kind_or (function_at p f).gives) (function_at p f).gives false (function_at p f).body m s t (W.each f ok.0).body near
 
   one_call : (Back : Type 0) (d depth : ℕ) → CallsCorrespond Back (Callable d) (λ f. (function_at p f).locals) (calls_within p n depth) (inline_within p n d) →
       (f o m : ℕ) (s t : Locals) → Callable (suc d) f → Near o (function_at p f).locals m s t →
       Corresponds Back ((calls_within p n (suc depth)).does f) s (bounded_trace (inline_within p n (suc d) f o m).tree) t
-        (λ v s' w t'. (w ≡ through) × Inlined o (function_at p f).locals m (inline_within p n (suc d) f o m).next t v s' t')
+      (λ v s' w t'. (w ≡ through) × Inlined o (function_at p f).locals m (inline_within p n (suc d) f o m).next t v s' t')
   one_call Back d depth C f o m s t ok near =
       corresponds_gives_left (corresponds_gives_right (corresponds_less (body_corresponds Back d depth C f o m s t ok near)
-        (λ flow s' w t' h. came_through (function_at p f).gives flow h)))
+      (λ flow s' w t' h. came_through (function_at p f).gives flow h)))
 
   -- Calls correspond. The way back holds where the source's calls may go as deep as the inlining.
   pub calls_correspond : (Back : Type 0) (d depth : ℕ) → (Back → d ≤ depth) → CallsCorrespond Back (Callable d) (λ f. (function_at p f).locals) (calls_within p n depth) (inline_within p n d)
@@ -75,12 +75,12 @@ module _ (p : ScopedProgram) (n : ℕ) (W : IsWellScoped p) where
       there = record { cuts = λ acts e. ([], but_loc_same e.is, deep.opens); leaves = λ acts w e. absurd e.is; ends = λ acts after value e. absurd e.is };
       back = λ k. (let e : suc d ≤ zero = b k in let bad : ⊥ = omega arith in absurd bad);
       opens = deep.opens;
-      lasts = λ acts after value e. absurd e.is
-    }
+      lasts = λ acts after value e. absurd e.is;
+    };
   }
   calls_correspond Back (suc d) (suc depth) b = record {
     grows = grows_within (suc d);
-    correspond = one_call Back d depth (calls_correspond Back d depth (λ k. (let e : suc d ≤ suc depth = b k in omega arith)))
+    correspond = one_call Back d depth (calls_correspond Back d depth (λ k. (let e : suc d ≤ suc depth = b k in omega arith)));
   }
 
 -- ---- whole threads
@@ -117,7 +117,7 @@ start_near size arguments h = record {
   result = get_or_past arguments (0 + size) 0 (omega arith);
   unused = λ k b. get_or_past arguments k 0 (omega arith);
   handles = refl;
-  room = omega arith
+  room = omega arith;
 }
 
 -- each thread's traces and those of its tree are the same sets, Loc left out
@@ -143,5 +143,5 @@ thread_traces p n W f there arguments few whole d deep =
     let near = start_near (function_at p f).locals arguments few in
     let ok = callable p n W d f there deep in
     same_traces p n f (thread_tree p n d f) arguments whole d (λ v s' w t'. (w ≡ through) × Inlined 0 (function_at p f).locals (suc (function_at p f).locals) (inline_within p n d f 0 (suc (function_at p f).locals)).next (begun arguments) v s' t')
-      (λ depth. ((calls_correspond p n W ⊥ d depth (λ e. absurd e)).correspond f 0 (suc (function_at p f).locals) (begun arguments) (begun arguments) ok near).there)
-      (((calls_correspond p n W ⊤ d d (λ _. le_refl d)).correspond f 0 (suc (function_at p f).locals) (begun arguments) (begun arguments) ok near).back tt)
+    (λ depth. ((calls_correspond p n W ⊥ d depth (λ e. absurd e)).correspond f 0 (suc (function_at p f).locals) (begun arguments) (begun arguments) ok near).there)
+    (((calls_correspond p n W ⊤ d d (λ _. le_refl d)).correspond f 0 (suc (function_at p f).locals) (begun arguments) (begun arguments) ok near).back tt)

@@ -1,19 +1,14 @@
 -- Loops with local values that hang together: `while`, `for` and `do`, unwound flat.
-use Rattle.std.proofs.Common.{◌≡◌, ◌≢◌, ℕ, zero, suc, ◌+◌, ◌<◌, ◌≤◌, ◌⊎◌, inl, inr, Bool, true, false, List, [], ◌∷◌, Option, Some, None, refl, sym, ap, ◌∙◌, subst, arith, le_refl, le_trans}
-use Rattle.std.specs.Prelude.{⊤}
-use Rattle.lz_base.specs.Words.{is_true}
-use Rattle.lz_base.specs.declared.word.IntType.{IntType}
-use Rattle.lz_tree.specs.ScopedTrees.{ScopedExpression}
-use Rattle.lz_model.specs.Behaviours.{Behaviour, ends_with, halts, ◌and_then◌, ◌gives◌, picks}
+use Rattle.std.proofs.Common.{◌≡◌, ℕ, zero, suc, ◌≤◌, Bool, true, false, refl, sym, ap, ◌∙◌, subst, arith, le_refl, le_trans}
+use Rattle.lz_model.specs.Behaviours.{Behaviour, ends_with, picks}
 use Rattle.lz_model.specs.CodeTraces.{Locals, Flow, normal, breaks, continues, returns, turned, turns, do_turns}
 use Rattle.lz_agree.proofs.CorrespondsLemmas.{corresponds_value, corresponds_halts, corresponds_less, corresponds_then, corresponds_gives_right}
-use Rattle.lz_agree.specs.Correspondence.{Simulated, Corresponds}
+use Rattle.lz_agree.specs.Correspondence.{Corresponds}
 use Rattle.lz_bound.specs.BoundedTraces.{Leaving, through, left, passes, caught, bounded_trace}
-use Rattle.lz_bound.specs.BoundedTrees.{BoundedStatement, nothing, seq, frame, leave, stuck}
-use Rattle.lz_unwind.proofs.CallsLemmas.{near_more}
+use Rattle.lz_bound.specs.BoundedTrees.{BoundedStatement, seq, frame, stuck}
 use Rattle.lz_unwind.proofs.PiecesLemmas.{chain_start, chain_then, chain_more}
-use Rattle.lz_unwind.specs.Pieces.{Made, made, after_, framed}
-use Rattle.lz_unwind.specs.Relation.{Near, Kept, Inlined, Chain}
+use Rattle.lz_unwind.specs.Pieces.{Made}
+use Rattle.lz_unwind.specs.Relation.{Near, Inlined, Chain}
 use Rattle.lz_unwind.specs.Translation.{turns_made, do_turns_made}
 
 pub inlined_then : {o l m m' m'' v : ℕ} {t s1 t1 s2 t2 : Locals} → Chain o l m m' t s1 t1 → Inlined o l m' m'' t1 v s2 t2 → Inlined o l m m'' t v s2 t2
@@ -93,14 +88,13 @@ module _ {Back : Type 0} (o l : ℕ) (test : (Bool → Behaviour Locals Flow) �
     (test_code body change_code : ℕ → Made)
     (test_grows : (m : ℕ) → m ≤ (test_code m).next) (body_grows : (m : ℕ) → m ≤ (body m).next) (change_grows : (m : ℕ) → m ≤ (change_code m).next)
     (tests : (m : ℕ) (s t : Locals) (next : Bool → Behaviour Locals Flow) (rest : BoundedStatement) (Post : Flow → Locals → Leaving → Locals → Type 0) → Near o l m s t →
-        ((s1 t1 : Locals) → Chain o l m (test_code m).next t s1 t1 → Corresponds Back (next true) s1 (bounded_trace rest) t1 Post) →
-        ((s1 t1 : Locals) → Chain o l m (test_code m).next t s1 t1 → Corresponds Back (next false) s1 (ends_with (left 0)) t1 Post) →
-        Corresponds Back (test next) s (bounded_trace (seq (test_code m).tree rest)) t Post)
+    ((s1 t1 : Locals) → Chain o l m (test_code m).next t s1 t1 → Corresponds Back (next true) s1 (bounded_trace rest) t1 Post) →
+    ((s1 t1 : Locals) → Chain o l m (test_code m).next t s1 t1 → Corresponds Back (next false) s1 (ends_with (left 0)) t1 Post) →
+    Corresponds Back (test next) s (bounded_trace (seq (test_code m).tree rest)) t Post)
     (changes : (m : ℕ) (s t : Locals) (next : Behaviour Locals Flow) (rest : BoundedStatement) (Post : Flow → Locals → Leaving → Locals → Type 0) → Near o l m s t →
-        ((s1 t1 : Locals) → Chain o l m (change_code m).next t s1 t1 → Corresponds Back next s1 (bounded_trace rest) t1 Post) →
-        Corresponds Back (change next) s (bounded_trace (seq (change_code m).tree rest)) t Post)
+    ((s1 t1 : Locals) → Chain o l m (change_code m).next t s1 t1 → Corresponds Back next s1 (bounded_trace rest) t1 Post) →
+    Corresponds Back (change next) s (bounded_trace (seq (change_code m).tree rest)) t Post)
     (inner : (m : ℕ) (s t : Locals) → Near o l m s t → Corresponds Back code s (bounded_trace (body m).tree) t (λ flow s' w t'. Leading true o l m (body m).next t flow s' w t')) where
-
   after : {m m1 m2 m3 last : ℕ} {t s1 t1 s2 t2 : Locals} {w : Leaving} {again : Behaviour Locals Flow} {R : Behaviour Locals Leaving} (flow : Flow) → Chain o l m m1 t s1 t1 → m3 ≤ last → m2 ≤ last → Turning o l m1 m2 t1 flow s2 w t2 →
       ((s t : Locals) → Near o l m2 s t → Corresponds Back again s R t (λ flow s' w t'. Turnings o l m2 last t flow s' w t')) →
       Corresponds Back (turned flow again) s2 (passes w R) t2 (λ flow s' w t'. Turnings o l m last t flow s' w t')
@@ -116,10 +110,10 @@ module _ {Back : Type 0} (o l : ℕ) (test : (Bool → Behaviour Locals Flow) �
       let m1 = (test_code m).next in let m2 = (body m1).next in let m3 = (change_code m2).next in
       let rest3 = (turns_made test_code body change_code n m3).tree in
       tests m s t _ (seq (frame 1 (body m1).tree) (seq (change_code m2).tree rest3)) _ near
-        (λ s1 t1 c. corresponds_then (corresponds_gives_right (corresponds_less (inner m1 s1 t1 c.near) (λ flow s2 w t2 g. turn_of w flow g)))
-          (λ flow s2 w t2 g. after flow c (turns_grow test_code body change_code test_grows body_grows change_grows n m3) (le_trans (change_grows m2) (turns_grow test_code body change_code test_grows body_grows change_grows n m3)) g
-            (λ s3 t3 near3. changes m2 s3 t3 (turns test code change n) rest3 _ near3 (λ s4 t4 c4. corresponds_less (turns_correspond n m3 s4 t4 c4.near) (λ flow s' w t' x. turns_then flow c4 x)))))
-        (λ s1 t1 c. corresponds_value (record { is = (refl, chain_more (le_trans (body_grows m1) (le_trans (change_grows m2) (turns_grow test_code body change_code test_grows body_grows change_grows n m3))) c) }))
+      (λ s1 t1 c. corresponds_then (corresponds_gives_right (corresponds_less (inner m1 s1 t1 c.near) (λ flow s2 w t2 g. turn_of w flow g)))
+      (λ flow s2 w t2 g. after flow c (turns_grow test_code body change_code test_grows body_grows change_grows n m3) (le_trans (change_grows m2) (turns_grow test_code body change_code test_grows body_grows change_grows n m3)) g
+      (λ s3 t3 near3. changes m2 s3 t3 (turns test code change n) rest3 _ near3 (λ s4 t4 c4. corresponds_less (turns_correspond n m3 s4 t4 c4.near) (λ flow s' w t' x. turns_then flow c4 x)))))
+      (λ s1 t1 c. corresponds_value (record { is = (refl, chain_more (le_trans (body_grows m1) (le_trans (change_grows m2) (turns_grow test_code body change_code test_grows body_grows change_grows n m3))) c) }))
 
   pub do_turns_correspond : (n m : ℕ) (s t : Locals) → Near o l m s t →
       Corresponds Back (do_turns test code n) s (bounded_trace (do_turns_made test_code body n m).tree) t (λ flow s' w t'. Turnings o l m (do_turns_made test_code body n m).next t flow s' w t')
@@ -127,7 +121,7 @@ module _ {Back : Type 0} (o l : ℕ) (test : (Bool → Behaviour Locals Flow) �
   do_turns_correspond (suc n) m s t near =
       let m1 = (body m).next in let m2 = (test_code m1).next in
       corresponds_then (corresponds_gives_right (corresponds_less (inner m s t near) (λ flow s2 w t2 g. turn_of w flow g)))
-        (λ flow s2 w t2 g. after flow (chain_start near) (le_refl (do_turns_made test_code body n m2).next) (le_trans (test_grows m1) (do_turns_grow test_code body test_grows body_grows n m2)) g
-          (λ s3 t3 near3. tests m1 s3 t3 (λ again. picks again (do_turns test code n) (ends_with normal)) (do_turns_made test_code body n m2).tree _ near3
-            (λ s4 t4 c4. corresponds_less (do_turns_correspond n m2 s4 t4 c4.near) (λ flow s' w t' x. turns_then flow c4 x))
-            (λ s4 t4 c4. corresponds_value (record { is = (refl, chain_more (do_turns_grow test_code body test_grows body_grows n m2) c4) }))))
+      (λ flow s2 w t2 g. after flow (chain_start near) (le_refl (do_turns_made test_code body n m2).next) (le_trans (test_grows m1) (do_turns_grow test_code body test_grows body_grows n m2)) g
+      (λ s3 t3 near3. tests m1 s3 t3 (λ again. picks again (do_turns test code n) (ends_with normal)) (do_turns_made test_code body n m2).tree _ near3
+      (λ s4 t4 c4. corresponds_less (do_turns_correspond n m2 s4 t4 c4.near) (λ flow s' w t' x. turns_then flow c4 x))
+      (λ s4 t4 c4. corresponds_value (record { is = (refl, chain_more (do_turns_grow test_code body test_grows body_grows n m2) c4) }))))

@@ -1,5 +1,5 @@
 -- Inner: how the local values of a function hang together with those of the tree that it was inlined in.
-use Rattle.std.specs.Prelude.{◌≡◌, ◌≢◌, ℕ, suc, ◌<◌, ◌≤◌, ◌+◌, ◌⊎◌, Option, Some, None, ⊤}
+use Rattle.std.specs.Prelude.{◌≡◌, ◌≢◌, ℕ, ◌<◌, ◌≤◌, ◌+◌, ◌⊎◌, Option, Some, None, ⊤}
 use Rattle.lz_base.specs.declared.word.IntType.{IntType}
 use Rattle.lz_model.specs.CodeTraces.{Locals}
 

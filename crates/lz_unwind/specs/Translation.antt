@@ -1,20 +1,18 @@
 -- Inner: statements and expressions, calls inlined and loops unwound.
 use Rattle.std.specs.Prelude.{ℕ, zero, suc, ◌+◌, ◌||◌, ◌&&◌, not, Bool, true, false, List, [], ◌∷◌, Option, Some, None}
 use Rattle.lz_base.specs.declared.word.IntType.{IntType}
-use Rattle.lz_base.specs.declared.word.IntType.TheVariants.{Int, Unsigned}
-use Rattle.lz_base.specs.declared.operator.Binary.{Binary}
+use Rattle.lz_base.specs.declared.word.IntType.TheVariants.{Unsigned}
 use Rattle.lz_tree.specs.declared.scoped.KnownName.{KnownName}
-use Rattle.lz_tree.specs.declared.scoped.KnownName.TheVariants as known
 use Rattle.lz_tree.specs.declared.scoped.Object.{Object}
 use Rattle.lz_tree.specs.declared.scoped.Object.TheVariants.{Local, Cell, Mutex, Cond, Handle, Routine, Known}
 use Rattle.lz_tree.specs.Kinds.{kind_of, kind_or, kind_of_object, value_kind, way_of}
-use Rattle.lz_tree.specs.ScopedTrees.{ScopedExpression, constant, null, text, object, address, paren, unary, cast, binary, choose, assign, step, call, Lvalue, lvalue, ScopedIndex, whole, element, ScopedExpressions, none, and, ScopedInitializer, nothing, single, listed, ScopedInitDeclarator, ScopedStatement, empty, eval, block, declare, when, while, do_while, for, break, continue, return, label, ScopedBranch, absent, branch, ScopedStatements, nil, cons}
+use Rattle.lz_tree.specs.ScopedTrees.{ScopedExpression, constant, null, text, object, address, paren, unary, cast, binary, choose, assign, step, call, lvalue, ScopedIndex, whole, element, ScopedExpressions, none, and, ScopedInitializer, nothing, single, listed, ScopedInitDeclarator, ScopedStatement, empty, eval, block, declare, when, while, do_while, for, break, continue, return, label, ScopedBranch, absent, branch, ScopedStatements, nil, cons}
 use Rattle.lz_tree.specs.WellFormed.{is_logical}
 use Rattle.lz_model.specs.CodeTraces.{is_division}
 use Rattle.lz_bound.specs.BoundedTrees as tree
 use Rattle.lz_bound.specs.BoundedTrees.{BoundedStatement, evals, fresh, clear, seq, frame, leave, stuck}
 use Rattle.lz_unwind.specs.Moved.{moved, shift, shift_all, has_call, index_has_call, all_have_call}
-use Rattle.lz_unwind.specs.Pieces.{Made, Callees, made, after_, framed, unless_call, local, temp, store, head_kind, tail_kinds, int_constant, at_temp, inside_of, tested, at_place, inside_place, operands, out_unless, Shape, no_value, one_value, an_end, one_object, two_objects, creation, printing, shape_of}
+use Rattle.lz_unwind.specs.Pieces.{Made, Callees, made, after_, framed, unless_call, local, temp, store, head_kind, tail_kinds, int_constant, at_temp, inside_of, tested, at_place, inside_place, operands, out_unless, Shape, one_value, an_end, one_object, two_objects, creation, printing, shape_of}
 
 -- ---- expressions
 
@@ -33,35 +31,35 @@ module _ (env : Callees) (o : ℕ) where
     into (address line of kind) x k m = plain (address line of kind) x k m
     into (object (lvalue line meant index checked) kind) x k m =
         unless_call (index_has_call index) (plain (object (lvalue line meant index checked) kind) x k m)
-          (after_ (index_into index m (suc m)) λ m'. made (store (object (lvalue line (moved o meant) (at_temp index m) false) kind) x k) m')
+        (after_ (index_into index m (suc m)) λ m'. made (store (object (lvalue line (moved o meant) (at_temp index m) false) kind) x k) m')
     into (paren line e kind) x k m = into e x k m
     into (unary line op e kind) x k m =
         unless_call (has_call e) (plain (unary line op e kind) x k m)
-          (after_ (into e m (kind_of e) (suc m)) λ m'. made (store (unary line op (temp m (kind_of e)) kind) x k) m')
+        (after_ (into e m (kind_of e) (suc m)) λ m'. made (store (unary line op (temp m (kind_of e)) kind) x k) m')
     into (cast line to e kind) x k m = unless_call (has_call e) (plain (cast line to e kind) x k m) (into e x k m)
     into (binary line op a b kind) x k m =
         unless_call (has_call a || has_call b) (plain (binary line op a b kind) x k m)
-          (operands line op (kind_of a) (kind_of b) kind x k m (into a m (kind_of a) (suc m)) (λ m'. into b m' (kind_of b) (suc m')))
+        (operands line op (kind_of a) (kind_of b) kind x k m (into a m (kind_of a) (suc m)) (λ m'. into b m' (kind_of b) (suc m')))
     into (choose line a b c kind) x k m =
         unless_call (has_call a || (has_call b || has_call c)) (plain (choose line a b c kind) x k m)
-          (after_ (into a m (kind_of a) (suc m)) λ m'.
-            after_ (made (tree.when (temp m (kind_of a)) (into b m' (kind_or kind) (suc m')).tree (into c m' (kind_or kind) (into b m' (kind_or kind) (suc m')).next).tree) (into c m' (kind_or kind) (into b m' (kind_or kind) (suc m')).next).next) λ m''.
-            made (store (temp m' (kind_or kind)) x k) m'')
+        (after_ (into a m (kind_of a) (suc m)) λ m'.
+        after_ (made (tree.when (temp m (kind_of a)) (into b m' (kind_or kind) (suc m')).tree (into c m' (kind_or kind) (into b m' (kind_or kind) (suc m')).next).tree) (into c m' (kind_or kind) (into b m' (kind_or kind) (suc m')).next).next) λ m''.
+        made (store (temp m' (kind_or kind)) x k) m'')
     into (assign line None (lvalue at meant index checked) e kind) x k m =
         unless_call (index_has_call index || has_call e) (plain (assign line None (lvalue at meant index checked) e kind) x k m)
-          (after_ (index_into index m (suc m)) λ m'. after_ (into e m' (kind_of e) (suc m')) λ m''.
-            made (store (assign line None (lvalue at (moved o meant) (at_temp index m) false) (temp m' (kind_of e)) kind) x k) m'')
+        (after_ (index_into index m (suc m)) λ m'. after_ (into e m' (kind_of e) (suc m')) λ m''.
+        made (store (assign line None (lvalue at (moved o meant) (at_temp index m) false) (temp m' (kind_of e)) kind) x k) m'')
     -- the read has the line of the assignment, the check that of its target
     into (assign line (Some op) (lvalue at meant index checked) e kind) x k m =
         unless_call (index_has_call index || has_call e) (plain (assign line (Some op) (lvalue at meant index checked) e kind) x k m)
-          (after_ (index_into index m (suc m)) λ m'. after_ (made (inside_of at meant index m) m') λ m'.
-            after_ (made (store (object (lvalue line (moved o meant) (at_temp index m) (tested index)) (Some (kind_of_object meant))) m' (kind_of_object meant)) (suc m')) λ m''.
-            after_ (into e m'' (kind_of e) (suc m'')) λ m'''.
-            made (store (assign line None (lvalue at (moved o meant) (at_temp index m) (tested index))
-              (binary line op (temp m' (kind_of_object meant)) (temp m'' (kind_of e)) (Some (value_kind (way_of op) (kind_of_object meant) (kind_of e)))) kind) x k) m''')
+        (after_ (index_into index m (suc m)) λ m'. after_ (made (inside_of at meant index m) m') λ m'.
+        after_ (made (store (object (lvalue line (moved o meant) (at_temp index m) (tested index)) (Some (kind_of_object meant))) m' (kind_of_object meant)) (suc m')) λ m''.
+        after_ (into e m'' (kind_of e) (suc m'')) λ m'''.
+        made (store (assign line None (lvalue at (moved o meant) (at_temp index m) (tested index))
+        (binary line op (temp m' (kind_of_object meant)) (temp m'' (kind_of e)) (Some (value_kind (way_of op) (kind_of_object meant) (kind_of e)))) kind) x k) m''')
     into (step line (lvalue at meant index checked) up before kind) x k m =
         unless_call (index_has_call index) (plain (step line (lvalue at meant index checked) up before kind) x k m)
-          (after_ (index_into index m (suc m)) λ m'. made (store (step line (lvalue at (moved o meant) (at_temp index m) false) up before kind) x k) m')
+        (after_ (index_into index m (suc m)) λ m'. made (store (step line (lvalue at (moved o meant) (at_temp index m) false) up before kind) x k) m')
     -- the arguments into the callee's own locals, its body, its result
     into (call line (Routine g) args kind) x k m =
         after_ (arguments_into args (env.params g) m (suc (m + env.size g))) λ m'.
@@ -123,7 +121,7 @@ module _ (env : Callees) (o : ℕ) where
   abbrev pub set_made : ScopedExpression → ℕ → IntType → ℕ → Made
   set_made e x k m =
       unless_call (has_call e) (made (evals (shift o e) (Some (local x k))) m)
-        (after_ (into e m (kind_of e) (suc m)) λ m'. made (evals (temp m (kind_of e)) (Some (local x k))) m')
+      (after_ (into e m (kind_of e) (suc m)) λ m'. made (evals (temp m (kind_of e)) (Some (local x k))) m')
 
   -- ---- tests and steps
 
