@@ -1,5 +1,5 @@
 -- Inlined expressions keep the rules: each new number has one kind.
-use Rattle.std.proofs.Common.{◌≡◌, ℕ, zero, suc, ◌+◌, ◌-◌, ◌<◌, ◌≤◌, ◌||◌, not, nat_lt, Bool, true, false, List, [], ◌∷◌, length, Option, Some, None, if◌then◌else◌, refl, sym, ap, ap₂, ◌∙◌, subst, arith, add-zero, le_refl, le_trans}
+use Rattle.std.proofs.Common.{◌≡◌, ℕ, suc, ◌+◌, ◌-◌, ◌<◌, ◌≤◌, ◌||◌, nat_lt, Bool, true, false, List, [], ◌∷◌, Option, Some, None, if◌then◌else◌, refl, sym, ap, ◌∙◌, subst, arith, add-zero, le_refl, le_trans}
 use Rattle.std.specs.Prelude.{slice_index_or, ⊤}
 use Rattle.std.proofs.lemmas.Bool.{lt-ltb, le-ltb}
 use Rattle.lz_base.specs.Words.{value_bound}
@@ -11,15 +11,15 @@ use Rattle.lz_tree.specs.declared.scoped.KnownName.{KnownName}
 use Rattle.lz_tree.specs.declared.scoped.Object.{Object}
 use Rattle.lz_tree.specs.declared.scoped.Object.TheVariants.{Local, Cell, Mutex, Cond, Handle, Routine, Known}
 use Rattle.lz_tree.specs.Kinds.{kind_of, kind_or, kind_of_object, len_of, value_kind, way_of}
-use Rattle.lz_tree.specs.ScopedTrees.{ScopedExpression, constant, null, text, object, address, paren, unary, cast, binary, choose, assign, step, call, Lvalue, lvalue, ScopedIndex, whole, element, ScopedExpressions, none, and, ScopedProgram, function_at}
-use Rattle.lz_tree.specs.WellScoped.{Setting, IsLength, AreWithin, AreOfKind, IsInteger, kind_at, HasValue, joint_kind, IsScoped, IsIndex, AreValues, AreArguments, takes_more, forms_of, number_of, IsWellScoped, MayCall, setting_of}
-use Rattle.lz_bound.specs.BoundedTrees.{BoundedStatement, evals}
+use Rattle.lz_tree.specs.ScopedTrees.{ScopedExpression, constant, null, text, object, address, paren, unary, cast, binary, choose, assign, step, call, lvalue, ScopedIndex, whole, element, ScopedExpressions, none, and, ScopedProgram, function_at}
+use Rattle.lz_tree.specs.WellScoped.{Setting, IsLength, IsInteger, kind_at, HasValue, IsScoped, IsIndex, AreValues, number_of, IsWellScoped, MayCall, setting_of}
+use Rattle.lz_bound.specs.BoundedTrees.{evals}
 use Rattle.lz_bound.specs.WellFormed.{local_limit, IsTree, IsStored}
 use Rattle.lz_unwind.specs.Moved.{moved, shift, has_call, index_has_call, all_have_call}
-use Rattle.lz_unwind.specs.Pieces.{Made, Callees, Inliner, unless_call, local, temp, store, target_of, at_temp, inside_of, tested, int_constant, truth_of, operands, head_kind, tail_kinds, shape_of}
+use Rattle.lz_unwind.specs.Pieces.{Made, Inliner, unless_call, local, temp, store, target_of, at_temp, inside_of, tested, int_constant, truth_of, operands, head_kind, tail_kinds, shape_of}
 use Rattle.lz_unwind.specs.Translation.{into, index_into, arguments_into, known_into}
 use Rattle.lz_unwind.specs.Inlining.{callees}
-use Rattle.lz_unwind.proofs.MovedLemmas.{kind_at-shift, len_of-moved, kind_of_object-moved}
+use Rattle.lz_unwind.proofs.MovedLemmas.{len_of-moved, kind_of_object-moved}
 use Rattle.lz_unwind.proofs.GrowsLemmas.{into_grows, index_grows, arguments_grows}
 use Rattle.lz_unwind.proofs.ScopedLemmas.{target, IsFramed, integer_moved, scoped_moved}
 
@@ -164,10 +164,10 @@ module _ (p : ScopedProgram) (W : IsWellScoped p) (main : Bool) (frames : List �
     kinds = kinds_;
     fits = λ K e. record {
       here = λ i h. e (m + i) (omega arith) (omega (arith, h)) ∙ ap (λ (c : Bool). if c then W.plan.local_kinds g ((m + i) - m) else kind_or (function_at p g).gives) (lt-ltb (m + i) (m + (function_at p g).locals) (omega (arith, h))) ∙
-        ap (W.plan.local_kinds g) (omega arith);
+          ap (W.plan.local_kinds g) (omega arith);
       result = e (m + (function_at p g).locals) (omega arith) (omega arith) ∙
-        ap (λ (c : Bool). if c then W.plan.local_kinds g ((m + (function_at p g).locals) - m) else kind_or (function_at p g).gives) (le-ltb (m + (function_at p g).locals) (m + (function_at p g).locals) (le_refl (m + (function_at p g).locals)))
-    }
+          ap (λ (c : Bool). if c then W.plan.local_kinds g ((m + (function_at p g).locals) - m) else kind_or (function_at p g).gives) (le-ltb (m + (function_at p g).locals) (m + (function_at p g).locals) (le_refl (m + (function_at p g).locals)));
+    };
   }
     where
       kinds_ : ℕ → IntType
@@ -184,8 +184,7 @@ module _ (p : ScopedProgram) (W : IsWellScoped p) (main : Bool) (frames : List �
   module _ (inline : Inliner) (inline_grows : (g i m : ℕ) → m ≤ (inline g i m).next)
       (inlined : (g i m : ℕ) → MayCall p W.plan f g → Kinded m (inline g i m).next (λ K. IsFramed p W g i K → K (i + (function_at p g).locals) ≡ kind_or (function_at p g).gives → i + (function_at p g).locals < m → (inline g i m).next ≤ local_limit → IsTree (target p W main K) frames (inline g i m).tree))
       (known_kinded : (line : ℕ) (name : KnownName) (args : ScopedExpressions) (kind : Option IntType) (x : ℕ) (k : IntType) (m : ℕ) → all_have_call args ≡ true → IsScoped (setting_of p W.plan f) (call line (Known name) args kind) →
-        Kinded m (known_into (callees p inline) o (shape_of name) line name args kind x k m).next (Fits (known_into (callees p inline) o (shape_of name) line name args kind x k m) x k)) where
-
+      Kinded m (known_into (callees p inline) o (shape_of name) line name args kind x k m).next (Fits (known_into (callees p inline) o (shape_of name) line name args kind x k m) x k)) where
     grow : (e : ScopedExpression) (x : ℕ) (k : IntType) (m : ℕ) → m ≤ (into (callees p inline) o e x k m).next
     grow e x k m = into_grows (callees p inline) o inline_grows e x k m
 
@@ -194,17 +193,17 @@ module _ (p : ScopedProgram) (W : IsWellScoped p) (main : Bool) (frames : List �
 
     binary_fits : (line : ℕ) (op : Binary) (a b : ScopedExpression) (kind : Option IntType) (x : ℕ) (k : IntType) (m : ℕ) → kind ≡ Some (value_kind (way_of op) (kind_of a) (kind_of b)) →
         Kinded m (into (callees p inline) o b (into (callees p inline) o a m (kind_of a) (suc m)).next (kind_of b) (suc (into (callees p inline) o a m (kind_of a) (suc m)).next)).next
-          (λ K. (K m ≡ kind_of a) × (Fits (into (callees p inline) o a m (kind_of a) (suc m)) m (kind_of a) K × ((K (into (callees p inline) o a m (kind_of a) (suc m)).next ≡ kind_of b) ×
-            Fits (into (callees p inline) o b (into (callees p inline) o a m (kind_of a) (suc m)).next (kind_of b) (suc (into (callees p inline) o a m (kind_of a) (suc m)).next)) (into (callees p inline) o a m (kind_of a) (suc m)).next (kind_of b) K))) →
+        (λ K. (K m ≡ kind_of a) × (Fits (into (callees p inline) o a m (kind_of a) (suc m)) m (kind_of a) K × ((K (into (callees p inline) o a m (kind_of a) (suc m)).next ≡ kind_of b) ×
+        Fits (into (callees p inline) o b (into (callees p inline) o a m (kind_of a) (suc m)).next (kind_of b) (suc (into (callees p inline) o a m (kind_of a) (suc m)).next)) (into (callees p inline) o a m (kind_of a) (suc m)).next (kind_of b) K))) →
         Kinded m (operands line op (kind_of a) (kind_of b) kind x k m (into (callees p inline) o a m (kind_of a) (suc m)) (λ n. into (callees p inline) o b n (kind_of b) (suc n))).next
-          (Fits (operands line op (kind_of a) (kind_of b) kind x k m (into (callees p inline) o a m (kind_of a) (suc m)) (λ n. into (callees p inline) o b n (kind_of b) (suc n))) x k)
+        (Fits (operands line op (kind_of a) (kind_of b) kind x k m (into (callees p inline) o a m (kind_of a) (suc m)) (λ n. into (callees p inline) o b n (kind_of b) (suc n))) x k)
     binary_fits line op a b kind x k m e h =
         let first = into (callees p inline) o a m (kind_of a) (suc m) in let second : ℕ → Made = λ n. into (callees p inline) o b n (kind_of b) (suc n) in
         let ga = grow a m (kind_of a) (suc m) in let gb = grow b first.next (kind_of b) (suc first.next) in
         let next_is = operands_next line op (kind_of a) (kind_of b) kind x k m first second in
         subst (λ (n : ℕ). Kinded m n (Fits (operands line op (kind_of a) (kind_of b) kind x k m first second) x k)) (sym next_is)
-          (kinded_map (λ K h F lim0 xk xl. let lim = subst (λ (n : ℕ). n ≤ local_limit) next_is lim0 in let lim1 = le_trans (le_trans (up first.next) gb) lim in
-            operands_fit p W main K frames line op (kind_of a) (kind_of b) kind x k m first second e h.0 (under ga lim1) h.1.1.0 (under gb lim) xk xl (h.1.0 F lim1 h.0 (under ga lim1)) (h.1.1.1 F lim h.1.1.0 (under gb lim))) h)
+        (kinded_map (λ K h F lim0 xk xl. let lim = subst (λ (n : ℕ). n ≤ local_limit) next_is lim0 in let lim1 = le_trans (le_trans (up first.next) gb) lim in
+        operands_fit p W main K frames line op (kind_of a) (kind_of b) kind x k m first second e h.0 (under ga lim1) h.1.1.0 (under gb lim) xk xl (h.1.0 F lim1 h.0 (under ga lim1)) (h.1.1.1 F lim h.1.1.0 (under gb lim))) h)
 
     mutual
       -- an expression with its calls inlined
@@ -214,59 +213,85 @@ module _ (p : ScopedProgram) (W : IsWellScoped p) (main : Bool) (frames : List �
       into_kinded (text line kind) x k m g = absurd g
       into_kinded (address line of kind) x k m g = absurd g
       into_kinded (object (lvalue line meant index checked) kind) x k m g = unless_kinded (index_has_call index) _ _ (λ c. plainly_kinded (object (lvalue line meant index checked) kind) x k m c g)
-          (λ c. kinded_map (λ K h F lim a b. let low = under (grow_index index m (suc m)) lim in let i = h F lim in
-            (i.0, stored_fits p W main K frames (object (lvalue line (moved o meant) (at_temp index m) false) kind) x k a b
-              (integer_moved p W main f o alone K F meant g.0, g.1 ∙ sym (ap (λ (j : IntType). Some j) (kind_of_object-moved o meant)), at_temp_fits p W main K (setting_of p W.plan f) o meant checked index m g.2 i.1 low)))
-            (place_kinded meant checked index m g.2))
+          (λ c. kinded_map (λ K h F lim a b. let low = under (grow_index index m (suc m)) lim in let i = h F lim in (
+            i.0,
+            stored_fits p W main K frames (object (lvalue line (moved o meant) (at_temp index m) false) kind) x k a b
+                (integer_moved p W main f o alone K F meant g.0, g.1 ∙ sym (ap (λ (j : IntType). Some j) (kind_of_object-moved o meant)), at_temp_fits p W main K (setting_of p W.plan f) o meant checked index m g.2 i.1 low),
+          ))
+          (place_kinded meant checked index m g.2))
       into_kinded (paren line e kind) x k m g = into_kinded e x k m g.0
       into_kinded (unary line op e kind) x k m g = unless_kinded (has_call e) _ _ (λ c. plainly_kinded (unary line op e kind) x k m c g)
           (λ c. kinded_map (λ K h F lim a b. let low = under (grow e m (kind_of e) (suc m)) lim in
-            (h.1 F lim h.0 low, stored_fits p W main K frames (unary line op (temp m (kind_of e)) kind) x k a b (temp_fits p W main K m (kind_of e) h.0 low, refl, g.2)))
-            (kinded_two (up m) (grow e m (kind_of e) (suc m)) (kinded_temp m (kind_of e)) (into_kinded e m (kind_of e) (suc m) g.0)))
+          (h.1 F lim h.0 low, stored_fits p W main K frames (unary line op (temp m (kind_of e)) kind) x k a b (temp_fits p W main K m (kind_of e) h.0 low, refl, g.2)))
+          (kinded_two (up m) (grow e m (kind_of e) (suc m)) (kinded_temp m (kind_of e)) (into_kinded e m (kind_of e) (suc m) g.0)))
       into_kinded (cast line to e kind) x k m g = unless_kinded (has_call e) _ _ (λ c. plainly_kinded (cast line to e kind) x k m c g) (λ c. into_kinded e x k m g.0)
       into_kinded (binary line op a b kind) x k m g =
           let m1 = (into (callees p inline) o a m (kind_of a) (suc m)).next in
           let ga = grow a m (kind_of a) (suc m) in let gb = grow b m1 (kind_of b) (suc m1) in
           unless_kinded (has_call a || has_call b) _ _ (λ c. plainly_kinded (binary line op a b kind) x k m c g)
           (λ c. binary_fits line op a b kind x k m g.4
-            (kinded_two (up m) (le_trans ga (le_trans (up m1) gb)) (kinded_temp m (kind_of a)) (kinded_two ga (le_trans (up m1) gb) (into_kinded a m (kind_of a) (suc m) g.0)
-              (kinded_two (up m1) gb (kinded_temp m1 (kind_of b)) (into_kinded b m1 (kind_of b) (suc m1) g.2)))))
+          (kinded_two (up m) (le_trans ga (le_trans (up m1) gb)) (kinded_temp m (kind_of a)) (kinded_two ga (le_trans (up m1) gb) (into_kinded a m (kind_of a) (suc m) g.0)
+          (kinded_two (up m1) gb (kinded_temp m1 (kind_of b)) (into_kinded b m1 (kind_of b) (suc m1) g.2)))))
       into_kinded (choose line a b d kind) x k m g =
           let j = kind_or kind in
           let m1 = (into (callees p inline) o a m (kind_of a) (suc m)).next in let m2 = (into (callees p inline) o b m1 j (suc m1)).next in
           let ga = grow a m (kind_of a) (suc m) in let gb = grow b m1 j (suc m1) in let gd = grow d m1 j m2 in
           unless_kinded (has_call a || (has_call b || has_call d)) _ _ (λ c. plainly_kinded (choose line a b d kind) x k m c g)
-          (λ c. kinded_map (λ K h F lim xk xl. let low1 = under gb (le_trans gd lim) in let low = under ga (le_trans (le_trans (up m1) (le_trans gb gd)) lim) in
-            (h.1.0 F (le_trans (le_trans (up m1) (le_trans gb gd)) lim) h.0 low,
-              ((temp_fits p W main K m (kind_of a) h.0 low, refl, h.1.1.1.0 F (le_trans gd lim) h.1.1.0 low1, h.1.1.1.1 F lim h.1.1.0 low1),
-                stored_fits p W main K frames (temp m1 j) x k xk xl (temp_fits p W main K m1 j h.1.1.0 low1))))
-            (kinded_two (up m) (le_trans ga (le_trans (up m1) (le_trans gb gd))) (kinded_temp m (kind_of a)) (kinded_two ga (le_trans (up m1) (le_trans gb gd)) (into_kinded a m (kind_of a) (suc m) g.0)
-              (kinded_two (up m1) (le_trans gb gd) (kinded_temp m1 j) (kinded_two gb gd (into_kinded b m1 j (suc m1) g.2) (into_kinded d m1 j m2 g.3))))))
+          (λ c. kinded_map (λ K h F lim xk xl. let low1 = under gb (le_trans gd lim) in let low = under ga (le_trans (le_trans (up m1) (le_trans gb gd)) lim) in (
+            h.1.0 F (le_trans (le_trans (up m1) (le_trans gb gd)) lim) h.0 low,
+            (
+              (temp_fits p W main K m (kind_of a) h.0 low, refl, h.1.1.1.0 F (le_trans gd lim) h.1.1.0 low1, h.1.1.1.1 F lim h.1.1.0 low1),
+              stored_fits p W main K frames (temp m1 j) x k xk xl (temp_fits p W main K m1 j h.1.1.0 low1),
+            ),
+          ))
+          (kinded_two (up m) (le_trans ga (le_trans (up m1) (le_trans gb gd))) (kinded_temp m (kind_of a)) (kinded_two ga (le_trans (up m1) (le_trans gb gd)) (into_kinded a m (kind_of a) (suc m) g.0)
+          (kinded_two (up m1) (le_trans gb gd) (kinded_temp m1 j) (kinded_two gb gd (into_kinded b m1 j (suc m1) g.2) (into_kinded d m1 j m2 g.3))))))
       into_kinded (assign line None (lvalue at meant index checked) e kind) x k m g =
           let m1 = (index_into (callees p inline) o index m (suc m)).next in let gi = grow_index index m (suc m) in let ge = grow e m1 (kind_of e) (suc m1) in
           unless_kinded (index_has_call index || has_call e) _ _ (λ c. plainly_kinded (assign line None (lvalue at meant index checked) e kind) x k m c g)
-          (λ c. kinded_map (λ K h F lim xk xl. let lim1 = le_trans (le_trans (up m1) ge) lim in let low = under gi lim1 in let low1 = under ge lim in let i = h.0 F lim1 in
-            (i.0, (h.1.1 F lim h.1.0 low1, stored_fits p W main K frames (assign line None (lvalue at (moved o meant) (at_temp index m) false) (temp m1 (kind_of e)) kind) x k xk xl
-              (integer_moved p W main f o alone K F meant g.0, at_temp_fits p W main K (setting_of p W.plan f) o meant checked index m g.1 i.1 low, temp_fits p W main K m1 (kind_of e) h.1.0 low1, refl, tt,
-                g.5 ∙ sym (ap (λ (j : IntType). Some j) (kind_of_object-moved o meant))))))
-            (kinded_two (le_trans (up m) gi) (le_trans (up m1) ge) (place_kinded meant checked index m g.1) (kinded_two (up m1) ge (kinded_temp m1 (kind_of e)) (into_kinded e m1 (kind_of e) (suc m1) g.2))))
+          (λ c. kinded_map (λ K h F lim xk xl. let lim1 = le_trans (le_trans (up m1) ge) lim in let low = under gi lim1 in let low1 = under ge lim in let i = h.0 F lim1 in (
+            i.0,
+            (
+              h.1.1 F lim h.1.0 low1,
+              stored_fits p W main K frames (assign line None (lvalue at (moved o meant) (at_temp index m) false) (temp m1 (kind_of e)) kind) x k xk xl (
+                integer_moved p W main f o alone K F meant g.0,
+                at_temp_fits p W main K (setting_of p W.plan f) o meant checked index m g.1 i.1 low,
+                temp_fits p W main K m1 (kind_of e) h.1.0 low1,
+                refl,
+                tt,
+                g.5 ∙ sym (ap (λ (j : IntType). Some j) (kind_of_object-moved o meant)),
+              ),
+            ),
+          ))
+          (kinded_two (le_trans (up m) gi) (le_trans (up m1) ge) (place_kinded meant checked index m g.1) (kinded_two (up m1) ge (kinded_temp m1 (kind_of e)) (into_kinded e m1 (kind_of e) (suc m1) g.2))))
       into_kinded (assign line (Some op) (lvalue at meant index checked) e kind) x k m g =
           let m1 = (index_into (callees p inline) o index m (suc m)).next in let j = kind_of_object meant in let m2 = suc m1 in
           let gi = grow_index index m (suc m) in let ge = grow e m2 (kind_of e) (suc m2) in
           unless_kinded (index_has_call index || has_call e) _ _ (λ c. plainly_kinded (assign line (Some op) (lvalue at meant index checked) e kind) x k m c g)
           (λ c. kinded_map (λ K h F lim xk xl. let lim1 = le_trans (le_trans (up m1) (le_trans (up m2) ge)) lim in let low = under gi lim1 in let low1 = under (le_trans (up m2) ge) lim in let low2 = under ge lim in let i = h.0 F lim1 in
-            let at_ = tested_fits p W main K (setting_of p W.plan f) o meant checked index m g.1 i.1 low in let int = integer_moved p W main f o alone K F meant g.0 in
-            let same = sym (ap (λ (z : IntType). Some z) (kind_of_object-moved o meant)) in
-            (i.0, (inside_fits p W main K frames at meant index m (integer_length (setting_of p W.plan f) meant g.0) i.1 low,
-              (stored_fits p W main K frames (object (lvalue line (moved o meant) (at_temp index m) (tested index)) (Some j)) m1 j h.1.0 low1 (int, same, at_),
-                (h.1.1.1 F lim h.1.1.0 low2, stored_fits p W main K frames (assign line None (lvalue at (moved o meant) (at_temp index m) (tested index)) (binary line op (temp m1 j) (temp m2 (kind_of e)) (Some (value_kind (way_of op) j (kind_of e)))) kind) x k xk xl
-                  (int, at_, (temp_fits p W main K m1 j h.1.0 low1, refl, temp_fits p W main K m2 (kind_of e) h.1.1.0 low2, refl, refl), refl, tt, g.5 ∙ same))))))
-            (kinded_two (le_trans (up m) gi) (le_trans (up m1) (le_trans (up m2) ge)) (place_kinded meant checked index m g.1) (kinded_two (up m1) (le_trans (up m2) ge) (kinded_temp m1 j) (kinded_two (up m2) ge (kinded_temp m2 (kind_of e)) (into_kinded e m2 (kind_of e) (suc m2) g.2)))))
+          let at_ = tested_fits p W main K (setting_of p W.plan f) o meant checked index m g.1 i.1 low in let int = integer_moved p W main f o alone K F meant g.0 in
+          let same = sym (ap (λ (z : IntType). Some z) (kind_of_object-moved o meant)) in (
+            i.0,
+            (
+              inside_fits p W main K frames at meant index m (integer_length (setting_of p W.plan f) meant g.0) i.1 low,
+              (
+                stored_fits p W main K frames (object (lvalue line (moved o meant) (at_temp index m) (tested index)) (Some j)) m1 j h.1.0 low1 (int, same, at_),
+                (
+                  h.1.1.1 F lim h.1.1.0 low2,
+                  stored_fits p W main K frames (assign line None (lvalue at (moved o meant) (at_temp index m) (tested index)) (binary line op (temp m1 j) (temp m2 (kind_of e)) (Some (value_kind (way_of op) j (kind_of e)))) kind) x k xk xl
+                      (int, at_, (temp_fits p W main K m1 j h.1.0 low1, refl, temp_fits p W main K m2 (kind_of e) h.1.1.0 low2, refl, refl), refl, tt, g.5 ∙ same),
+                ),
+              ),
+            ),
+          ))
+          (kinded_two (le_trans (up m) gi) (le_trans (up m1) (le_trans (up m2) ge)) (place_kinded meant checked index m g.1) (kinded_two (up m1) (le_trans (up m2) ge) (kinded_temp m1 j) (kinded_two (up m2) ge (kinded_temp m2 (kind_of e)) (into_kinded e m2 (kind_of e) (suc m2) g.2)))))
       into_kinded (step line (lvalue at meant index checked) going before kind) x k m g = unless_kinded (index_has_call index) _ _ (λ c. plainly_kinded (step line (lvalue at meant index checked) going before kind) x k m c g)
-          (λ c. kinded_map (λ K h F lim a b. let low = under (grow_index index m (suc m)) lim in let i = h F lim in
-            (i.0, stored_fits p W main K frames (step line (lvalue at (moved o meant) (at_temp index m) false) going before kind) x k a b
-              (integer_moved p W main f o alone K F meant g.0, at_temp_fits p W main K (setting_of p W.plan f) o meant checked index m g.1 i.1 low, g.2 ∙ sym (ap (λ (j : IntType). Some j) (kind_of_object-moved o meant)))))
-            (place_kinded meant checked index m g.1))
+          (λ c. kinded_map (λ K h F lim a b. let low = under (grow_index index m (suc m)) lim in let i = h F lim in (
+            i.0,
+            stored_fits p W main K frames (step line (lvalue at (moved o meant) (at_temp index m) false) going before kind) x k a b
+                (integer_moved p W main f o alone K F meant g.0, at_temp_fits p W main K (setting_of p W.plan f) o meant checked index m g.1 i.1 low, g.2 ∙ sym (ap (λ (j : IntType). Some j) (kind_of_object-moved o meant))),
+          ))
+          (place_kinded meant checked index m g.1))
       into_kinded (call line (Routine q) args kind) x k m g =
           let z = (function_at p q).locals in let ps = (function_at p q).params in let m1 = suc (m + z) in
           let m2 = (arguments_into (callees p inline) o args ps m m1).next in
@@ -274,11 +299,14 @@ module _ (p : ScopedProgram) (W : IsWellScoped p) (main : Bool) (frames : List �
           let few : number_of args ≤ z = le_trans (subst (λ (n : ℕ). number_of args ≤ n) g.1 (le_refl (number_of args))) room in
           let up1 : m ≤ m1 = omega arith in
           let ga = arguments_grows (callees p inline) o inline_grows args ps m m1 in let gi = inline_grows q m m2 in
-          kinded_map (λ K h F lim xk xl. let top : m + z < local_limit = omega (arith, ga, gi, lim) in
-            (h.1.0 F (le_trans gi lim) (λ i c. h.0.here i (omega (arith, c, few)) ∙ (W.each q there).kinds i (subst (λ (n : ℕ). i < n) g.1 c)) (omega (arith, few, top)),
-              (h.1.1 (record { here = h.0.here; room = omega (arith, top) }) h.0.result (omega (arith, ga)) lim,
-                stored_fits p W main K frames (temp (m + z) (kind_or (function_at p q).gives)) x k xk xl (temp_fits p W main K (m + z) (kind_or (function_at p q).gives) h.0.result top))))
-            (kinded_two up1 (le_trans ga gi) (frame_kinded q m) (kinded_two ga gi (arguments_kinded args ps m m1 g.2) (inlined q m m2 g.0)))
+          kinded_map (λ K h F lim xk xl. let top : m + z < local_limit = omega (arith, ga, gi, lim) in (
+            h.1.0 F (le_trans gi lim) (λ i c. h.0.here i (omega (arith, c, few)) ∙ (W.each q there).kinds i (subst (λ (n : ℕ). i < n) g.1 c)) (omega (arith, few, top)),
+            (
+              h.1.1 (record { here = h.0.here; room = omega (arith, top) }) h.0.result (omega (arith, ga)) lim,
+              stored_fits p W main K frames (temp (m + z) (kind_or (function_at p q).gives)) x k xk xl (temp_fits p W main K (m + z) (kind_or (function_at p q).gives) h.0.result top),
+            ),
+          ))
+          (kinded_two up1 (le_trans ga gi) (frame_kinded q m) (kinded_two ga gi (arguments_kinded args ps m m1 g.2) (inlined q m m2 g.0)))
       into_kinded (call line (Known name) args kind) x k m g = unless_kinded (all_have_call args) _ _ (λ c. plainly_kinded (call line (Known name) args kind) x k m c g) (λ c. known_kinded line name args kind x k m c g)
       into_kinded (call line (Local first len j) args kind) x k m g = absurd g
       into_kinded (call line (Cell first len j) args kind) x k m g = absurd g
@@ -295,12 +323,13 @@ module _ (p : ScopedProgram) (W : IsWellScoped p) (main : Bool) (frames : List �
 
       arguments_kinded : (es : ScopedExpressions) (ks : List IntType) (x m : ℕ) → AreValues (setting_of p W.plan f) es →
           Kinded m (arguments_into (callees p inline) o es ks x m).next (λ K. IsFramed p W f o K → (arguments_into (callees p inline) o es ks x m).next ≤ local_limit → ((i : ℕ) → i < number_of es → K (x + i) ≡ slice_index_or ks i Int) → x + number_of es ≤ local_limit →
-            IsTree (target p W main K) frames (arguments_into (callees p inline) o es ks x m).tree)
+          IsTree (target p W main K) frames (arguments_into (callees p inline) o es ks x m).tree)
       arguments_kinded none ks x m g = kinded_none (λ K F lim h b. tt)
       arguments_kinded (and e es) ks x m g =
           let m1 = (into (callees p inline) o e x (head_kind ks) m).next in
           let ge = grow e x (head_kind ks) m in let gs = arguments_grows (callees p inline) o inline_grows es (tail_kinds ks) (suc x) m1 in
-          kinded_map (λ K h F lim each b.
-            (h.0 F (le_trans gs lim) (ap K (sym (add-zero x)) ∙ each 0 (omega arith) ∙ head_kind_is ks) (omega (arith, b)),
-              h.1 F lim (λ i c. ap K (omega arith) ∙ each (suc i) (omega (arith, c)) ∙ tail_kind_is ks i) (omega (arith, b))))
-            (kinded_two ge gs (into_kinded e x (head_kind ks) m g.0) (arguments_kinded es (tail_kinds ks) (suc x) m1 g.2))
+          kinded_map (λ K h F lim each b. (
+            h.0 F (le_trans gs lim) (ap K (sym (add-zero x)) ∙ each 0 (omega arith) ∙ head_kind_is ks) (omega (arith, b)),
+            h.1 F lim (λ i c. ap K (omega arith) ∙ each (suc i) (omega (arith, c)) ∙ tail_kind_is ks i) (omega (arith, b)),
+          ))
+          (kinded_two ge gs (into_kinded e x (head_kind ks) m g.0) (arguments_kinded es (tail_kinds ks) (suc x) m1 g.2))
