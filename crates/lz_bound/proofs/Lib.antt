@@ -3,3 +3,4 @@ pub mod TreeFrontsLemmas
 pub mod RowsLemmas
 pub mod SumLemmas
 pub mod BoundedTreesLemmas
+pub mod Witnesses
