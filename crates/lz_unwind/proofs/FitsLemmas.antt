@@ -4,24 +4,29 @@ use Rattle.std.specs.Prelude.{slice_index_or, ⊤}
 use Rattle.std.proofs.lemmas.Bool.{lt-ltb, le-ltb}
 use Rattle.lz_base.specs.Words.{value_bound}
 use Rattle.lz_base.specs.declared.word.IntType.{IntType}
-use Rattle.lz_base.specs.declared.word.IntType.TheVariants.{Int}
+use Rattle.lz_base.specs.declared.word.IntType.TheVariants.{Int, Unsigned}
 use Rattle.lz_base.specs.declared.operator.Binary.{Binary}
 use Rattle.lz_base.specs.declared.operator.Binary.TheVariants as ops
 use Rattle.lz_tree.specs.declared.scoped.KnownName.{KnownName}
+use Rattle.lz_tree.specs.declared.scoped.KnownName.TheVariants as known
 use Rattle.lz_tree.specs.declared.scoped.Object.{Object}
+use Rattle.lz_model.specs.CodeTraces.{is_object_argument}
+use Rattle.std.proofs.lemmas.Bool.{false≢true}
 use Rattle.lz_tree.specs.declared.scoped.Object.TheVariants.{Local, Cell, Mutex, Cond, Handle, Routine, Known}
 use Rattle.lz_tree.specs.Kinds.{kind_of, kind_or, kind_of_object, len_of, value_kind, way_of}
 use Rattle.lz_tree.specs.ScopedTrees.{ScopedExpression, constant, null, text, object, address, paren, unary, cast, binary, choose, assign, step, call, lvalue, ScopedIndex, whole, element, ScopedExpressions, none, and, ScopedProgram, function_at}
-use Rattle.lz_tree.specs.WellScoped.{Setting, IsLength, IsInteger, kind_at, HasValue, IsScoped, IsIndex, AreValues, number_of, IsWellScoped, MayCall, setting_of}
+use Rattle.lz_tree.specs.WellScoped.{AreArguments, takes_more, forms_of, IsMutex, IsCond, IsThread, Form, some_value, no_attribute, format, start, new_thread, made_thread, mutex, cond, IsArgument, IsIndexed, IsNoAttribute, meant_by, result_of, Setting, IsLength, IsInteger, kind_at, HasValue, IsScoped, IsIndex, AreValues, number_of, IsWellScoped, MayCall, setting_of}
 use Rattle.lz_bound.specs.BoundedTrees.{evals}
 use Rattle.lz_bound.specs.WellFormed.{local_limit, IsTree, IsStored}
-use Rattle.lz_unwind.specs.Moved.{moved, shift, has_call, index_has_call, all_have_call}
-use Rattle.lz_unwind.specs.Pieces.{Made, Inliner, unless_call, local, temp, store, target_of, at_temp, inside_of, tested, int_constant, truth_of, operands, head_kind, tail_kinds, shape_of}
-use Rattle.lz_unwind.specs.Translation.{into, index_into, arguments_into, known_into}
+use Rattle.lz_unwind.specs.Moved.{shift_all, moved, shift, has_call, index_has_call, all_have_call}
+use Rattle.lz_unwind.specs.Pieces.{at_place, inside_place, Made, Inliner, unless_call, local, temp, store, target_of, at_temp, inside_of, tested, int_constant, truth_of, operands, head_kind, tail_kinds, shape_of}
+use Rattle.lz_unwind.specs.Translation.{handed_into, printed_into, discarded, into, index_into, arguments_into, known_into}
 use Rattle.lz_unwind.specs.Inlining.{callees}
 use Rattle.lz_unwind.proofs.MovedLemmas.{len_of-moved, kind_of_object-moved}
-use Rattle.lz_unwind.proofs.GrowsLemmas.{into_grows, index_grows, arguments_grows}
-use Rattle.lz_unwind.proofs.ScopedLemmas.{target, IsFramed, integer_moved, scoped_moved}
+use Rattle.lz_unwind.proofs.GrowsLemmas.{handed_grows, printed_grows, discarded_grows, into_grows, index_grows, arguments_grows}
+use Rattle.lz_unwind.proofs.PiecesLemmas.{index_in, more_values, takes_object, thing_handed, rest_calls_none}
+use Rattle.lz_unwind.proofs.SitesLemmas.{attribute_calls_none}
+use Rattle.lz_unwind.proofs.ScopedLemmas.{mutex_moved, cond_moved, thread_moved, start_moved, argument_moved, arguments_moved, indexed_moved, target, IsFramed, integer_moved, scoped_moved}
 
 -- ---- kinds of new numbers
 
@@ -138,6 +143,69 @@ operands_next line ops.Both ka kb kind x k m first second = refl
 operands_next line ops.Either ka kb kind x k m first second = refl
 operands_next line op ka kb kind x k m first second = refl
 
+-- ---- objects that are handed on
+
+thread_length : (w : Setting) (x : Object) → IsThread w x → IsLength (len_of x)
+thread_length w (Handle first len) g = g.0.length_
+thread_length w (Local first len kind) g = absurd g
+thread_length w (Cell first len kind) g = absurd g
+thread_length w (Mutex first len) g = absurd g
+thread_length w (Cond first len) g = absurd g
+thread_length w (Routine function) g = absurd g
+thread_length w (Known name) g = absurd g
+
+cond_length : (w : Setting) (x : Object) → IsCond w x → IsLength (len_of x)
+cond_length w (Cond first len) g = g.length_
+cond_length w (Local first len kind) g = absurd g
+cond_length w (Cell first len kind) g = absurd g
+cond_length w (Mutex first len) g = absurd g
+cond_length w (Handle first len) g = absurd g
+cond_length w (Routine function) g = absurd g
+cond_length w (Known name) g = absurd g
+
+module _ (p : ScopedProgram) (W : IsWellScoped p) (main : Bool) (f o : ℕ) (alone : W.plan.alone f ≡ true → main ≡ true) (K : ℕ → IntType) (F : IsFramed p W f o K) where
+  address_arg : (form : Form) (line at : ℕ) (meant : Object) (index index' : ScopedIndex) (checked b : Bool) (j : Option IntType) →
+      IsArgument (setting_of p W.plan f) form (address line (lvalue at meant index checked) j) ⊥ (IsIndex (setting_of p W.plan f) meant checked index) →
+      (IsIndex (setting_of p W.plan f) meant checked index → IsIndex (target p W main K) (moved o meant) b index') →
+      IsArgument (target p W main K) form (address line (lvalue at (moved o meant) index' b) j) ⊥ (IsIndex (target p W main K) (moved o meant) b index')
+  address_arg some_value line at meant index index' checked b j g i = absurd g.0
+  address_arg no_attribute line at meant index index' checked b j g i = absurd g.0
+  address_arg format line at meant index index' checked b j g i = absurd g
+  address_arg start line at meant index index' checked b j g i = absurd g
+  address_arg new_thread line at meant index index' checked b j g i = (refl, thread_moved p W main f o alone K F meant g.1, i g.2)
+  address_arg made_thread line at meant index index' checked b j g i = absurd (false≢true g.0)
+  address_arg mutex line at meant index index' checked b j g i = (refl, mutex_moved p W main f o alone K F meant g.1, i g.2)
+  address_arg cond line at meant index index' checked b j g i = (refl, cond_moved p W main f o alone K F meant g.1, i g.2)
+
+  object_arg : (forms : List Form) (form : Form) (at : ℕ) (meant : Object) (index index' : ScopedIndex) (checked b : Bool) (j : Option IntType) → takes_object form forms ≡ true →
+      IsArgument (setting_of p W.plan f) form (object (lvalue at meant index checked) j) (IsScoped (setting_of p W.plan f) (object (lvalue at meant index checked) j)) (IsIndex (setting_of p W.plan f) meant checked index) →
+      (IsIndex (setting_of p W.plan f) meant checked index → IsIndex (target p W main K) (moved o meant) b index') →
+      IsArgument (target p W main K) form (object (lvalue at (moved o meant) index' b) j) (IsScoped (target p W main K) (object (lvalue at (moved o meant) index' b) j)) (IsIndex (target p W main K) (moved o meant) b index')
+  object_arg forms some_value at meant index index' checked b j t g i = absurd (false≢true t)
+  object_arg forms no_attribute at meant index index' checked b j t g i = absurd (false≢true t)
+  object_arg forms format at meant index index' checked b j t g i = absurd (false≢true t)
+  object_arg forms start at meant index index' checked b j t g i = absurd (false≢true t)
+  object_arg forms new_thread at meant index index' checked b j t g i = absurd (false≢true g.0)
+  object_arg forms made_thread at meant index index' checked b j t g i = (refl, thread_moved p W main f o alone K F meant g.1, i g.2)
+  object_arg forms mutex at meant index index' checked b j t g i = absurd (false≢true g.0)
+  object_arg forms cond at meant index index' checked b j t g i = absurd (false≢true g.0)
+
+  -- an object that is handed on, its index in a temporary
+  place_arg : (form : Form) (forms : List Form) (was : Bool) (thing : ScopedExpression) (m : ℕ) → takes_object form forms ≡ true →
+      IsArgument (setting_of p W.plan f) form thing (IsScoped (setting_of p W.plan f) thing) (IsIndexed (setting_of p W.plan f) thing) → IsKindedAt p W main K (index_in thing) m → m < local_limit →
+      IsArgument (target p W main K) form (at_place o was thing m) (IsScoped (target p W main K) (at_place o was thing m)) (IsIndexed (target p W main K) (at_place o was thing m))
+  place_arg form forms true (address line (lvalue at meant index checked) j) m t g a b = address_arg form line at meant index (at_temp index m) checked (tested index) j g (λ i. tested_fits p W main K (setting_of p W.plan f) o meant checked index m i a b)
+  place_arg form forms false (address line (lvalue at meant index checked) j) m t g a b = address_arg form line at meant index (at_temp index m) checked false j g (λ i. at_temp_fits p W main K (setting_of p W.plan f) o meant checked index m i a b)
+  place_arg form forms true (object (lvalue at meant index checked) j) m t g a b = object_arg forms form at meant index (at_temp index m) checked (tested index) j t g (λ i. tested_fits p W main K (setting_of p W.plan f) o meant checked index m i a b)
+  place_arg form forms false (object (lvalue at meant index checked) j) m t g a b = object_arg forms form at meant index (at_temp index m) checked false j t g (λ i. at_temp_fits p W main K (setting_of p W.plan f) o meant checked index m i a b)
+  place_arg form forms was thing m t g a b = absurd (false≢true (thing_handed (setting_of p W.plan f) form forms thing t g))
+
+  -- the check of its index
+  place_inside : (frames : List ℕ) (thing : ScopedExpression) (m : ℕ) → is_object_argument thing ≡ true → IsLength (len_of (meant_by thing)) → IsKindedAt p W main K (index_in thing) m → m < local_limit → IsTree (target p W main K) frames (inside_place thing m)
+  place_inside frames (address line (lvalue at meant index checked) j) m h g a b = inside_fits p W main K frames at meant index m g a b
+  place_inside frames (object (lvalue at meant index checked) j) m h g a b = inside_fits p W main K frames at meant index m g a b
+  place_inside frames thing m h g a b = absurd (false≢true h)
+
 -- ---- expressions
 
 -- What is known of the bodies of functions, and of known names whose arguments call.
@@ -182,9 +250,7 @@ module _ (p : ScopedProgram) (W : IsWellScoped p) (main : Bool) (frames : List �
   tail_kind_is (k ∷ ks) i = refl
 
   module _ (inline : Inliner) (inline_grows : (g i m : ℕ) → m ≤ (inline g i m).next)
-      (inlined : (g i m : ℕ) → MayCall p W.plan f g → Kinded m (inline g i m).next (λ K. IsFramed p W g i K → K (i + (function_at p g).locals) ≡ kind_or (function_at p g).gives → i + (function_at p g).locals < m → (inline g i m).next ≤ local_limit → IsTree (target p W main K) frames (inline g i m).tree))
-      (known_kinded : (line : ℕ) (name : KnownName) (args : ScopedExpressions) (kind : Option IntType) (x : ℕ) (k : IntType) (m : ℕ) → all_have_call args ≡ true → IsScoped (setting_of p W.plan f) (call line (Known name) args kind) →
-      Kinded m (known_into (callees p inline) o (shape_of name) line name args kind x k m).next (Fits (known_into (callees p inline) o (shape_of name) line name args kind x k m) x k)) where
+      (inlined : (g i m : ℕ) → MayCall p W.plan f g → Kinded m (inline g i m).next (λ K. IsFramed p W g i K → K (i + (function_at p g).locals) ≡ kind_or (function_at p g).gives → i + (function_at p g).locals < m → (inline g i m).next ≤ local_limit → IsTree (target p W main K) frames (inline g i m).tree)) where
     grow : (e : ScopedExpression) (x : ℕ) (k : IntType) (m : ℕ) → m ≤ (into (callees p inline) o e x k m).next
     grow e x k m = into_grows (callees p inline) o inline_grows e x k m
 
@@ -204,6 +270,13 @@ module _ (p : ScopedProgram) (W : IsWellScoped p) (main : Bool) (frames : List �
         subst (λ (n : ℕ). Kinded m n (Fits (operands line op (kind_of a) (kind_of b) kind x k m first second) x k)) (sym next_is)
         (kinded_map (λ K h F lim0 xk xl. let lim = subst (λ (n : ℕ). n ≤ local_limit) next_is lim0 in let lim1 = le_trans (le_trans (up first.next) gb) lim in
         operands_fit p W main K frames line op (kind_of a) (kind_of b) kind x k m first second e h.0 (under ga lim1) h.1.1.0 (under gb lim) xk xl (h.1.0 F lim1 h.0 (under ga lim1)) (h.1.1.1 F lim h.1.1.0 (under gb lim))) h)
+
+    dropped_kinded : (b : Bool) (e : ScopedExpression) (m : ℕ) → has_call e ≡ b → IsScoped (setting_of p W.plan f) e →
+        Kinded m (into (callees p inline) o e m (kind_of e) (suc m)).next (λ K. IsFramed p W f o K → (into (callees p inline) o e m (kind_of e) (suc m)).next ≤ local_limit → IsTree (target p W main K) frames (into (callees p inline) o e m (kind_of e) (suc m)).tree) →
+        Kinded m (unless_call b (record { tree = evals (shift o e) None; next = m }) (into (callees p inline) o e m (kind_of e) (suc m))).next
+        (λ K. IsFramed p W f o K → (unless_call b (record { tree = evals (shift o e) None; next = m }) (into (callees p inline) o e m (kind_of e) (suc m))).next ≤ local_limit → IsTree (target p W main K) frames (unless_call b (record { tree = evals (shift o e) None; next = m }) (into (callees p inline) o e m (kind_of e) (suc m))).tree)
+    dropped_kinded true e m c g h = h
+    dropped_kinded false e m c g h = kinded_none (λ K F lim. (scoped_moved p W main f o alone K F e c g, tt))
 
     mutual
       -- an expression with its calls inlined
@@ -307,7 +380,7 @@ module _ (p : ScopedProgram) (W : IsWellScoped p) (main : Bool) (frames : List �
             ),
           ))
           (kinded_two up1 (le_trans ga gi) (frame_kinded q m) (kinded_two ga gi (arguments_kinded args ps m m1 g.2) (inlined q m m2 g.0)))
-      into_kinded (call line (Known name) args kind) x k m g = unless_kinded (all_have_call args) _ _ (λ c. plainly_kinded (call line (Known name) args kind) x k m c g) (λ c. known_kinded line name args kind x k m c g)
+      into_kinded (call line (Known name) args kind) x k m g = unless_kinded (all_have_call args) _ _ (λ c. plainly_kinded (call line (Known name) args kind) x k m c g) (λ c. known_kinded line name args kind x k m c g.0 g.1)
       into_kinded (call line (Local first len j) args kind) x k m g = absurd g
       into_kinded (call line (Cell first len j) args kind) x k m g = absurd g
       into_kinded (call line (Mutex first len) args kind) x k m g = absurd g
@@ -333,3 +406,171 @@ module _ (p : ScopedProgram) (W : IsWellScoped p) (main : Bool) (frames : List �
             h.1 F lim (λ i c. ap K (omega arith) ∙ each (suc i) (omega (arith, c)) ∙ tail_kind_is ks i) (omega (arith, b)),
           ))
           (kinded_two ge gs (into_kinded e x (head_kind ks) m g.0) (arguments_kinded es (tail_kinds ks) (suc x) m1 g.2))
+
+      -- the index of an object that is handed on
+      thing_kinded : (thing : ScopedExpression) (m : ℕ) → IsIndexed (setting_of p W.plan f) thing →
+          Kinded m (handed_into (callees p inline) o thing m).next (λ K. IsFramed p W f o K → (handed_into (callees p inline) o thing m).next ≤ local_limit → IsTree (target p W main K) frames (handed_into (callees p inline) o thing m).tree × IsKindedAt p W main K (index_in thing) m × (suc m ≤ (handed_into (callees p inline) o thing m).next))
+      thing_kinded (address line (lvalue at meant index checked) j) m g = kinded_map (λ K h F lim. ((h F lim).0, (h F lim).1, grow_index index m (suc m))) (place_kinded meant checked index m g)
+      thing_kinded (object (lvalue at meant index checked) j) m g = kinded_map (λ K h F lim. ((h F lim).0, (h F lim).1, grow_index index m (suc m))) (place_kinded meant checked index m g)
+      thing_kinded (constant line v form j) m g = absurd g
+      thing_kinded (null line j) m g = absurd g
+      thing_kinded (text line j) m g = absurd g
+      thing_kinded (paren line e j) m g = absurd g
+      thing_kinded (unary line op e j) m g = absurd g
+      thing_kinded (cast line to e j) m g = absurd g
+      thing_kinded (binary line op a b j) m g = absurd g
+      thing_kinded (choose line a b d j) m g = absurd g
+      thing_kinded (assign line op to e j) m g = absurd g
+      thing_kinded (step line of going before j) m g = absurd g
+      thing_kinded (call line callee args j) m g = absurd g
+
+      printed_kinded : (es : ScopedExpressions) (m : ℕ) → AreValues (setting_of p W.plan f) es → Kinded m (printed_into (callees p inline) o es m).next (λ K. IsFramed p W f o K → (printed_into (callees p inline) o es m).next ≤ local_limit → IsTree (target p W main K) frames (printed_into (callees p inline) o es m).tree)
+      printed_kinded none m g = kinded_none (λ K F lim. tt)
+      printed_kinded (and e es) m g =
+          let gs = printed_grows (callees p inline) o inline_grows es (discarded (callees p inline) o e m).next in
+          kinded_map (λ K h F lim. (h.0 F (le_trans gs lim), h.1 F lim))
+          (kinded_two (discarded_grows (callees p inline) o inline_grows e m) gs (dropped_kinded (has_call e) e m refl g.0
+          (kinded_map (λ K h F lim. h.1 F lim h.0 (under (grow e m (kind_of e) (suc m)) lim)) (kinded_two (up m) (grow e m (kind_of e) (suc m)) (kinded_temp m (kind_of e)) (into_kinded e m (kind_of e) (suc m) g.0))))
+          (printed_kinded es (discarded (callees p inline) o e m).next g.2))
+
+      known_kinded : (line : ℕ) (name : KnownName) (args : ScopedExpressions) (kind : Option IntType) (x : ℕ) (k : IntType) (m : ℕ) → all_have_call args ≡ true → AreArguments (setting_of p W.plan f) (takes_more name) (forms_of name) args → kind ≡ result_of name →
+          Kinded m (known_into (callees p inline) o (shape_of name) line name args kind x k m).next (Fits (known_into (callees p inline) o (shape_of name) line name args kind x k m) x k)
+      known_kinded line known.Assert none kind x k m c g r = absurd g
+      known_kinded line known.Assert (and e none) kind x k m c g r =
+          kinded_map (λ K h F lim xk xl. let low = under (grow e m (kind_of e) (suc m)) lim in (h.1 F lim h.0 low, stored_fits p W main K frames (call line (Known known.Assert) (and (temp m (kind_of e)) none) kind) x k xk xl (((temp_fits p W main K m (kind_of e) h.0 low, refl), tt), r)))
+          (kinded_two (up m) (grow e m (kind_of e) (suc m)) (kinded_temp m (kind_of e)) (into_kinded e m (kind_of e) (suc m) g.0.0))
+      known_kinded line known.Assert (and e (and e2 rest)) kind x k m c g r = absurd (false≢true g.1.0)
+      known_kinded line known.Assume none kind x k m c g r = absurd g
+      known_kinded line known.Assume (and e none) kind x k m c g r =
+          kinded_map (λ K h F lim xk xl. let low = under (grow e m (kind_of e) (suc m)) lim in (h.1 F lim h.0 low, stored_fits p W main K frames (call line (Known known.Assume) (and (temp m (kind_of e)) none) kind) x k xk xl (((temp_fits p W main K m (kind_of e) h.0 low, refl), tt), r)))
+          (kinded_two (up m) (grow e m (kind_of e) (suc m)) (kinded_temp m (kind_of e)) (into_kinded e m (kind_of e) (suc m) g.0.0))
+      known_kinded line known.Assume (and e (and e2 rest)) kind x k m c g r = absurd (false≢true g.1.0)
+      known_kinded line known.Exit none kind x k m c g r = absurd g
+      known_kinded line known.Exit (and e none) kind x k m c g r =
+          kinded_map (λ K h F lim xk xl. let low = under (grow e m (kind_of e) (suc m)) lim in (h.1 F lim h.0 low, stored_fits p W main K frames (call line (Known known.Exit) (and (null line (Some Unsigned)) none) kind) x k xk xl (((refl, refl), tt), r)))
+          (kinded_two (up m) (grow e m (kind_of e) (suc m)) (kinded_temp m (kind_of e)) (into_kinded e m (kind_of e) (suc m) g.0.0))
+      known_kinded line known.Exit (and e (and e2 rest)) kind x k m c g r = absurd (false≢true g.1.0)
+      known_kinded line known.Printf none kind x k m c g r = absurd g
+      known_kinded line known.Printf (and e values) kind x k m c g r =
+          kinded_map (λ K h F lim xk xl. (h F lim, stored_fits p W main K frames (int_constant 0) x k xk xl (constant_fits p W main K 0 (omega arith)))) (printed_kinded values m (more_values (setting_of p W.plan f) values g.1))
+      known_kinded line known.Join none kind x k m c g r = absurd g
+      known_kinded line known.Join (and thing rest) kind x k m c g r =
+          kinded_map (λ K h F lim xk xl. let i = h F lim in let low = under i.2 lim in (
+            i.0,
+            stored_fits p W main K frames (call line (Known known.Join) (and (at_place o false thing m) (shift_all o rest)) kind) x k xk xl
+                ((place_arg p W main f o alone K F made_thread (no_attribute ∷ []) false thing m refl g.0 i.1 low, arguments_moved p W main f o alone K F false (no_attribute ∷ []) rest (rest_calls_none (setting_of p W.plan f) made_thread (no_attribute ∷ []) rest refl g.1) g.1), r),
+          )) (thing_kinded thing m g.0.2)
+      known_kinded line known.MutexInit none kind x k m c g r = absurd g
+      known_kinded line known.MutexInit (and thing rest) kind x k m c g r =
+          kinded_map (λ K h F lim xk xl. let i = h F lim in let low = under i.2 lim in (
+            i.0,
+            stored_fits p W main K frames (call line (Known known.MutexInit) (and (at_place o false thing m) (shift_all o rest)) kind) x k xk xl
+                ((place_arg p W main f o alone K F mutex (no_attribute ∷ []) false thing m refl g.0 i.1 low, arguments_moved p W main f o alone K F false (no_attribute ∷ []) rest (rest_calls_none (setting_of p W.plan f) mutex (no_attribute ∷ []) rest refl g.1) g.1), r),
+          )) (thing_kinded thing m g.0.2)
+      known_kinded line known.MutexDestroy none kind x k m c g r = absurd g
+      known_kinded line known.MutexDestroy (and thing rest) kind x k m c g r =
+          kinded_map (λ K h F lim xk xl. let i = h F lim in let low = under i.2 lim in (
+            i.0,
+            stored_fits p W main K frames (call line (Known known.MutexDestroy) (and (at_place o false thing m) (shift_all o rest)) kind) x k xk xl
+                ((place_arg p W main f o alone K F mutex [] false thing m refl g.0 i.1 low, arguments_moved p W main f o alone K F false [] rest (rest_calls_none (setting_of p W.plan f) mutex [] rest refl g.1) g.1), r),
+          )) (thing_kinded thing m g.0.2)
+      known_kinded line known.MutexLock none kind x k m c g r = absurd g
+      known_kinded line known.MutexLock (and thing rest) kind x k m c g r =
+          kinded_map (λ K h F lim xk xl. let i = h F lim in let low = under i.2 lim in (
+            i.0,
+            stored_fits p W main K frames (call line (Known known.MutexLock) (and (at_place o false thing m) (shift_all o rest)) kind) x k xk xl
+                ((place_arg p W main f o alone K F mutex [] false thing m refl g.0 i.1 low, arguments_moved p W main f o alone K F false [] rest (rest_calls_none (setting_of p W.plan f) mutex [] rest refl g.1) g.1), r),
+          )) (thing_kinded thing m g.0.2)
+      known_kinded line known.MutexUnlock none kind x k m c g r = absurd g
+      known_kinded line known.MutexUnlock (and thing rest) kind x k m c g r =
+          kinded_map (λ K h F lim xk xl. let i = h F lim in let low = under i.2 lim in (
+            i.0,
+            stored_fits p W main K frames (call line (Known known.MutexUnlock) (and (at_place o false thing m) (shift_all o rest)) kind) x k xk xl
+                ((place_arg p W main f o alone K F mutex [] false thing m refl g.0 i.1 low, arguments_moved p W main f o alone K F false [] rest (rest_calls_none (setting_of p W.plan f) mutex [] rest refl g.1) g.1), r),
+          )) (thing_kinded thing m g.0.2)
+      known_kinded line known.CondInit none kind x k m c g r = absurd g
+      known_kinded line known.CondInit (and thing rest) kind x k m c g r =
+          kinded_map (λ K h F lim xk xl. let i = h F lim in let low = under i.2 lim in (
+            i.0,
+            stored_fits p W main K frames (call line (Known known.CondInit) (and (at_place o false thing m) (shift_all o rest)) kind) x k xk xl
+                ((place_arg p W main f o alone K F cond (no_attribute ∷ []) false thing m refl g.0 i.1 low, arguments_moved p W main f o alone K F false (no_attribute ∷ []) rest (rest_calls_none (setting_of p W.plan f) cond (no_attribute ∷ []) rest refl g.1) g.1), r),
+          )) (thing_kinded thing m g.0.2)
+      known_kinded line known.CondDestroy none kind x k m c g r = absurd g
+      known_kinded line known.CondDestroy (and thing rest) kind x k m c g r =
+          kinded_map (λ K h F lim xk xl. let i = h F lim in let low = under i.2 lim in (
+            i.0,
+            stored_fits p W main K frames (call line (Known known.CondDestroy) (and (at_place o false thing m) (shift_all o rest)) kind) x k xk xl
+                ((place_arg p W main f o alone K F cond [] false thing m refl g.0 i.1 low, arguments_moved p W main f o alone K F false [] rest (rest_calls_none (setting_of p W.plan f) cond [] rest refl g.1) g.1), r),
+          )) (thing_kinded thing m g.0.2)
+      known_kinded line known.CondSignal none kind x k m c g r = absurd g
+      known_kinded line known.CondSignal (and thing rest) kind x k m c g r =
+          kinded_map (λ K h F lim xk xl. let i = h F lim in let low = under i.2 lim in (
+            i.0,
+            stored_fits p W main K frames (call line (Known known.CondSignal) (and (at_place o false thing m) (shift_all o rest)) kind) x k xk xl
+                ((place_arg p W main f o alone K F cond [] false thing m refl g.0 i.1 low, arguments_moved p W main f o alone K F false [] rest (rest_calls_none (setting_of p W.plan f) cond [] rest refl g.1) g.1), r),
+          )) (thing_kinded thing m g.0.2)
+      known_kinded line known.CondBroadcast none kind x k m c g r = absurd g
+      known_kinded line known.CondBroadcast (and thing rest) kind x k m c g r =
+          kinded_map (λ K h F lim xk xl. let i = h F lim in let low = under i.2 lim in (
+            i.0,
+            stored_fits p W main K frames (call line (Known known.CondBroadcast) (and (at_place o false thing m) (shift_all o rest)) kind) x k xk xl
+                ((place_arg p W main f o alone K F cond [] false thing m refl g.0 i.1 low, arguments_moved p W main f o alone K F false [] rest (rest_calls_none (setting_of p W.plan f) cond [] rest refl g.1) g.1), r),
+          )) (thing_kinded thing m g.0.2)
+      known_kinded line known.CondWait none kind x k m c g r = absurd g
+      known_kinded line known.CondWait (and one none) kind x k m c g r = absurd g.1
+      known_kinded line known.CondWait (and one (and two none)) kind x k m c g r =
+          let m1 = (handed_into (callees p inline) o one m).next in let g2 = handed_grows (callees p inline) o inline_grows two m1 in
+          kinded_map (λ K h F lim xk xl. let i = h.0 F (le_trans g2 lim) in let j = h.1 F lim in let low = under i.2 (le_trans g2 lim) in let low1 = under j.2 lim in (
+            i.0,
+            (
+              place_inside p W main f o alone K F frames one m (thing_handed (setting_of p W.plan f) cond [] one refl g.0) (cond_length (setting_of p W.plan f) (meant_by one) g.0.1) i.1 low,
+              (
+                j.0,
+                stored_fits p W main K frames (call line (Known known.CondWait) (and (at_place o true one m) (and (at_place o false two m1) none)) kind) x k xk xl
+                    ((place_arg p W main f o alone K F cond [] true one m refl g.0 i.1 low, (place_arg p W main f o alone K F mutex [] false two m1 refl g.1.0 j.1 low1, tt)), r),
+              ),
+            ),
+          ))
+          (kinded_two (handed_grows (callees p inline) o inline_grows one m) g2 (thing_kinded one m g.0.2) (thing_kinded two m1 g.1.0.2))
+      known_kinded line known.CondWait (and one (and two (and e rest))) kind x k m c g r = absurd (false≢true g.1.1.0)
+      known_kinded line known.Create none kind x k m c g r = absurd g
+      known_kinded line known.Create (and thread none) kind x k m c g r = absurd g.1
+      known_kinded line known.Create (and thread (and attribute none)) kind x k m c g r = absurd g.1.1
+      known_kinded line known.Create (and thread (and attribute (and begins none))) kind x k m c g r = absurd g.1.1.1
+      known_kinded line known.Create (and thread (and attribute (and begins (and e none)))) kind x k m c g r =
+          let m1 = (handed_into (callees p inline) o thread m).next in let ge = grow e m1 (kind_of e) (suc m1) in
+          kinded_map (λ K h F lim xk xl. let lim1 = le_trans (le_trans (up m1) ge) lim in let i = h.0 F lim1 in let low = under i.2 lim1 in let low1 = under ge lim in (
+            i.0,
+            (
+              place_inside p W main f o alone K F frames thread m (thing_handed (setting_of p W.plan f) new_thread [] thread refl g.0) (thread_length (setting_of p W.plan f) (meant_by thread) g.0.1) i.1 low,
+              (
+                h.1.1 F lim h.1.0 low1,
+                stored_fits p W main K frames (call line (Known known.Create) (and (at_place o true thread m) (and (shift o attribute) (and (shift o begins) (and (temp m1 (kind_of e)) none)))) kind) x k xk xl (
+                  (
+                    place_arg p W main f o alone K F new_thread [] true thread m refl g.0 i.1 low,
+                    (
+                      argument_moved p W main f o alone K F no_attribute attribute g.1.0 (λ s. scoped_moved p W main f o alone K F attribute (attribute_calls_none attribute g.1.0.1) s) (λ i. indexed_moved p W main f o alone K F attribute (attribute_calls_none attribute g.1.0.1) i),
+                      (start_moved p W main f o alone K F begins g.1.1.0, ((temp_fits p W main K m1 (kind_of e) h.1.0 low1, refl), tt)),
+                    ),
+                  ),
+                  r,
+                ),
+              ),
+            ),
+          ))
+          (kinded_two (handed_grows (callees p inline) o inline_grows thread m) (le_trans (up m1) ge) (thing_kinded thread m g.0.2) (kinded_two (up m1) ge (kinded_temp m1 (kind_of e)) (into_kinded e m1 (kind_of e) (suc m1) g.1.1.1.0.0)))
+      known_kinded line known.Create (and thread (and attribute (and begins (and e (and e2 rest))))) kind x k m c g r = absurd (false≢true g.1.1.1.1.0)
+      known_kinded line known.NondetInt none kind x k m c g r = absurd (false≢true c)
+      known_kinded line known.NondetInt (and e rest) kind x k m c g r = absurd (false≢true g.0)
+      known_kinded line known.NondetUint none kind x k m c g r = absurd (false≢true c)
+      known_kinded line known.NondetUint (and e rest) kind x k m c g r = absurd (false≢true g.0)
+      known_kinded line known.Error none kind x k m c g r = absurd (false≢true c)
+      known_kinded line known.Error (and e rest) kind x k m c g r = absurd (false≢true g.0)
+      known_kinded line known.ReachError none kind x k m c g r = absurd (false≢true c)
+      known_kinded line known.ReachError (and e rest) kind x k m c g r = absurd (false≢true g.0)
+      known_kinded line known.Abort none kind x k m c g r = absurd (false≢true c)
+      known_kinded line known.Abort (and e rest) kind x k m c g r = absurd (false≢true g.0)
+      known_kinded line known.AtomicBegin none kind x k m c g r = absurd (false≢true c)
+      known_kinded line known.AtomicBegin (and e rest) kind x k m c g r = absurd (false≢true g.0)
+      known_kinded line known.AtomicEnd none kind x k m c g r = absurd (false≢true c)
+      known_kinded line known.AtomicEnd (and e rest) kind x k m c g r = absurd (false≢true g.0)

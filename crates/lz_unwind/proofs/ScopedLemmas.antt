@@ -126,7 +126,7 @@ module _ (p : ScopedProgram) (W : IsWellScoped p) (main : Bool) (f o : ℕ) (alo
   start_moved e g = absurd g
 
   -- an argument of a form, moved
-  argument_moved : (form : Form) (e : ScopedExpression) → IsArgument (setting_of p W.plan f) form e (IsScoped (setting_of p W.plan f) e) (IsIndexed (setting_of p W.plan f) e) →
+  pub argument_moved : (form : Form) (e : ScopedExpression) → IsArgument (setting_of p W.plan f) form e (IsScoped (setting_of p W.plan f) e) (IsIndexed (setting_of p W.plan f) e) →
       (IsScoped (setting_of p W.plan f) e → IsScoped (target p W main K) (shift o e)) → (IsIndexed (setting_of p W.plan f) e → IsIndexed (target p W main K) (shift o e)) →
       IsArgument (target p W main K) form (shift o e) (IsScoped (target p W main K) (shift o e)) (IsIndexed (target p W main K) (shift o e))
   argument_moved some_value e g s i = (s g.0, has_value-shift o e g.1)

@@ -125,7 +125,7 @@ attribute_sites bodies (null line kind) f = refl
 attribute_sites bodies (constant line v form kind) f = refl
 attribute_sites bodies e f = absurd f
 
-attribute_calls_none : (e : ScopedExpression) → IsNoAttribute e → has_call e ≡ false
+pub attribute_calls_none : (e : ScopedExpression) → IsNoAttribute e → has_call e ≡ false
 attribute_calls_none (null line kind) f = refl
 attribute_calls_none (constant line v form kind) f = refl
 attribute_calls_none e f = absurd f
