@@ -2,7 +2,7 @@
 use Rattle.std.proofs.Common.{◌≡◌, ℕ, zero, suc, ◌+◌, ◌-◌, ◌<◌, ◌≤◌, ◌⊎◌, inl, inr, cond, List, [], ◌∷◌, ◌++◌, length, take, get_or, eqb, refl, sym, ◌∙◌, ap, ap₂, subst, arith}
 use Rattle.std.specs.Prelude.{slice_index}
 use Rattle.std.proofs.lemmas.Bool.{cases_lt}
-use Rattle.std.proofs.lemmas.List.{length-append, get_or_default, length-take-le, get_or_append_left, get_or-append_right, take_more, take_all}
+use Rattle.std.proofs.lemmas.List.{length-append, get_or_default, length-take-le, get_or_append_left, get_or-append_right, take_more}
 use Rattle.lz_base.specs.Words.{value_bound, unary_value, binary_value, converted}
 use Rattle.lz_ssa.specs.declared.node.Node.{Node}
 use Rattle.lz_ssa.specs.declared.node.Node.TheVariants.{Constant, Input, Unary, Binary, Convert, Choose}
@@ -11,6 +11,7 @@ use Rattle.lz_ssa.specs.NodeValues.{node_value, values_from, values_of, IsNodeOf
 use Rattle.lz_ssa.specs.NodeWeight.{node_number, nodes_weight}
 use Rattle.lz_ssa.proofs.ValueLemmas.{values_keep, value_stays, value_last, nodes_append, nodes_one, values_words, weight_append}
 use Rattle.lz_ssa.proofs.EvaluateLemmas.{node_at}
+use Rattle.lz_fold.proofs.RulesLemmas.{unary_heavy, binary_heavy}
 use Rattle.lz_fold.specs.declared.rules.Folded.{Folded}
 use Rattle.lz_fold.specs.declared.rules.Folded.TheVariants.{Same, New}
 use Rattle.lz_fold.specs.Folding.{FoldsTo, FoldsBehind, folded_value, IsFoldedOf, folded_number, OperandsAre, Operands, renamed, AreNodes, IsPlaced, AnyNode, Went, IsFoldOf}
@@ -238,20 +239,6 @@ went_none inputs P = record {
   lighter = omega arith;
 }
 
--- all nodes
-pub went_all : (nodes made : Nodes) (P : ℕ → Type 0) (places : List ℕ) → AreWellFormed nodes → Went nodes.inputs P nodes.list made.list places → P nodes.fails → made.inputs ≡ nodes.inputs
-    → made.fails ≡ slice_index places nodes.fails → IsFoldOf nodes made
-went_all nodes made P places formed went needed inputs fails = record {
-  formed = record {
-    list = subst (λ (n : ℕ). AreNodesFrom n 0 made.list) (sym inputs) went.formed;
-    fails = let w = went.within nodes.fails formed.fails needed in omega (arith, w, fails);
-  };
-  inputs = inputs;
-  same = λ input words. ap (λ (n : ℕ). slice_index (values_of input made.list) n) fails ∙ went.same input words nodes.fails formed.fails needed;
-  fewer = went.fewer;
-  lighter = went.lighter;
-}
-
 -- ---- the loop
 
 -- a node names nodes before it
@@ -266,14 +253,6 @@ pub operands_of : (P : ℕ → Type 0) (nodes : Nodes) (list out : List Node) (p
 operands_of P nodes list out places lent i x formed e lt is went same =
     subst (λ (k : ℕ). Operands k x) (sym went.count ∙ sym (ap (λ (xs : List ℕ). length xs) same)) (node_operands nodes.inputs (length (take i list)) x (node_of nodes list i x formed e lt is))
 
-pub within_lent : (inputs : ℕ) (old out : List Node) (places lent : List ℕ) → Went inputs AnyNode old out places → lent ≡ places → (k : ℕ) → k < length lent → slice_index lent k < length out
-within_lent inputs old out places lent went same k lt =
-    let count = went.count in
-    subst (λ (xs : List ℕ). slice_index xs k < length out) (sym same) (went.within k (let n : k < length places = subst (λ (xs : List ℕ). k < length xs) same lt in omega (arith, n, count)) tt)
-
-pub few_so_far : (P : ℕ → Type 0) (inputs i : ℕ) (list out : List Node) (places : List ℕ) → i ≤ length list → Went inputs P (take i list) out places → length out ≤ i
-few_so_far P inputs i list out places le went = let size : length (take i list) ≡ i = length-take-le i list le in let f = went.fewer in omega (arith, f, size)
-
 pub went_turn : (P : ℕ → Type 0) (nodes : Nodes) (list out after : List Node) (places lent places' : List ℕ) (i number : ℕ) (x : Node) → AreWellFormed nodes → list ≡ nodes.list → i < length list → x ≡ get_or list i x → lent ≡ places
     → ((inputs : ℕ) (old : List Node) → Went inputs P old out lent → IsNodeOf inputs (length old) x → Went inputs P (old ++ x ∷ []) after (lent ++ number ∷ []))
     → places' ≡ places ++ number ∷ [] → Went nodes.inputs P (take i list) out places → Went nodes.inputs P (take (i + 1) list) after places'
@@ -286,14 +265,27 @@ pub went_start : (P : ℕ → Type 0) (inputs : ℕ) (list out : List Node) (pla
 went_start P inputs list out places no_nodes no_places =
     subst (λ (ps : List ℕ). Went inputs P [] out ps) (sym no_places) (subst (λ (xs : List Node). Went inputs P [] xs []) (sym no_nodes) (went_none inputs P))
 
-pub went_end : (P : ℕ → Type 0) (nodes made : Nodes) (list : List Node) (places lent : List ℕ) (i : ℕ) → AreWellFormed nodes → list ≡ nodes.list → length list ≤ i → Went nodes.inputs P (take i list) made.list places → P nodes.fails → lent ≡ places
-    → made.inputs ≡ nodes.inputs → made.fails ≡ slice_index lent nodes.fails → IsFoldOf nodes made
-went_end P nodes made list places lent i formed e le went needed same inputs fails =
-    went_all nodes made P places formed (subst (λ (old : List Node). Went nodes.inputs P old made.list places) (take_all i list le ∙ e) went) needed inputs (fails ∙ ap (λ (ps : List ℕ). slice_index ps nodes.fails) same)
+-- ---- the whole
 
-pub fails_within : (P : ℕ → Type 0) (nodes : Nodes) (list out : List Node) (places lent : List ℕ) (i : ℕ) → AreWellFormed nodes → list ≡ nodes.list → length list ≤ i → Went nodes.inputs P (take i list) out places → lent ≡ places → nodes.fails < length lent
-fails_within P nodes list out places lent i formed e le went same =
-    let size = went.count ∙ ap (λ (xs : List Node). length xs) (take_all i list le ∙ e) in
-    let last = formed.fails in
-    let n = ap (λ (xs : List ℕ). length xs) same in
-    omega (arith, size, last, n)
+-- there are no more nodes than they weigh
+pub length_weight : (list : List Node) → length list ≤ nodes_weight list
+length_weight [] = omega arith
+length_weight (x ∷ xs) = let more = length_weight xs in let one = node_heavy x in omega (arith, more, one)
+  where
+    node_heavy : (node : Node) → 1 ≤ node_number node
+    node_heavy (Constant value) = omega arith
+    node_heavy (Input number kind) = omega arith
+    node_heavy (Unary op kind of) = let h = unary_heavy op in omega (arith, h)
+    node_heavy (Binary op kind left right) = let h = binary_heavy op in omega (arith, h)
+    node_heavy (Convert from to of) = omega arith
+    node_heavy (Choose test chosen other) = omega arith
+
+-- folded twice
+pub fold_then : (nodes folded made : Nodes) → IsFoldOf nodes folded → IsFoldOf folded made → IsFoldOf nodes made
+fold_then nodes folded made one two = record {
+  formed = two.formed;
+  inputs = two.inputs ∙ one.inputs;
+  same = λ input words. two.same input words ∙ one.same input words;
+  fewer = let f = one.fewer in let g = two.fewer in omega (arith, f, g);
+  lighter = let f = one.lighter in let g = two.lighter in omega (arith, f, g);
+}

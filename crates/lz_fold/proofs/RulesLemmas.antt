@@ -189,13 +189,13 @@ keeps_equals_law Either t a e = absurd cc
 
 -- ---- a constant weighs no more than an operator
 
-unary_heavy : (op : Unary) → 2 ≤ unary_number op
+pub unary_heavy : (op : Unary) → 2 ≤ unary_number op
 unary_heavy Plus = omega arith
 unary_heavy Minus = omega arith
 unary_heavy Invert = omega arith
 unary_heavy Not = omega arith
 
-binary_heavy : (op : Binary) → 2 ≤ binary_number op
+pub binary_heavy : (op : Binary) → 2 ≤ binary_number op
 binary_heavy Mul = omega arith
 binary_heavy Div = omega arith
 binary_heavy Rem = omega arith

@@ -1,5 +1,7 @@
-ghost use Rattle.std.specs.Prelude.{◌<◌, ◌^◌, length, IfOk};
+ghost use Rattle.std.specs.Prelude.{◌≤◌, IfOk};
+ghost use Rattle.lz_base.specs.Limits.{cost_limit};
 ghost use Rattle.lz_ssa.specs.NodeValues.{AreWellFormed};
+ghost use Rattle.lz_ssa.specs.NodeWeight.{nodes_weight};
 ghost use Rattle.lz_fold.specs.Folding.{IsFoldOf};
 
 use crate::cone::keep_cone;
@@ -12,7 +14,7 @@ use std::alloc::Global;
 /// which `fails` rests. It has the same word on all inputs, which keep their numbers. The work is linear in the nodes.
 pub fn fold(alloc: Global, nodes: &Nodes) -> Result<Nodes, Memory>
     requires formed { AreWellFormed nodes.now }
-    requires few { length nodes.now.list < 2 ^ 32 }
+    requires light { nodes_weight nodes.now.list ≤ cost_limit }
     ensures { IfOk result (λ made. IsFoldOf nodes.now made) }
 {
     let folded = fold_up(alloc, nodes)?;
