@@ -40,7 +40,7 @@ pub keep_turn : (nodes : Nodes) (flags : List Bool) (list out after : List Node)
     → Went nodes.inputs (IsNeeded flags) (take i list) out places → Went nodes.inputs (IsNeeded flags) (take (i + 1) list) after places'
 keep_turn nodes flags list out after places lent places' i number x formed e lt is closed same keeps numbered more went =
     subst (λ (old : List Node). Went nodes.inputs (IsNeeded flags) old after places') (sym (take_more list i x lt ∙ ap (λ (y : Node). take i list ++ y ∷ []) (sym is)))
-        (subst (λ (ps : List ℕ). Went nodes.inputs (IsNeeded flags) (take i list ++ x ∷ []) after ps) (ap (λ (ps : List ℕ). ps ++ number ∷ []) same ∙ sym more) (by (get_or flags i false) refl))
+    (subst (λ (ps : List ℕ). Went nodes.inputs (IsNeeded flags) (take i list ++ x ∷ []) after ps) (ap (λ (ps : List ℕ). ps ++ number ∷ []) same ∙ sym more) (by (get_or flags i false) refl))
   where
     size : length (take i list) ≡ i
     size = length-take-le i list (omega (arith, lt))

@@ -246,7 +246,7 @@ pub node_of : (nodes : Nodes) (list : List Node) (i : ℕ) (x : Node) → AreWel
 node_of nodes list i x formed e lt is =
     let size : length (take i list) ≡ i = length-take-le i list (omega (arith, lt)) in
     subst (λ (k : ℕ). IsNodeOf nodes.inputs k x) (let z : 0 + i ≡ length (take i list) = omega (arith, size) in z)
-        (node_at nodes.inputs 0 list i x (subst (λ (xs : List Node). AreNodesFrom nodes.inputs 0 xs) (sym e) formed.list) lt is)
+    (node_at nodes.inputs 0 list i x (subst (λ (xs : List Node). AreNodesFrom nodes.inputs 0 xs) (sym e) formed.list) lt is)
 
 pub operands_of : (P : ℕ → Type 0) (nodes : Nodes) (list out : List Node) (places lent : List ℕ) (i : ℕ) (x : Node) → AreWellFormed nodes → list ≡ nodes.list → i < length list → x ≡ get_or list i x
     → Went nodes.inputs P (take i list) out places → lent ≡ places → Operands (length lent) x
@@ -258,8 +258,8 @@ pub went_turn : (P : ℕ → Type 0) (nodes : Nodes) (list out after : List Node
     → places' ≡ places ++ number ∷ [] → Went nodes.inputs P (take i list) out places → Went nodes.inputs P (take (i + 1) list) after places'
 went_turn P nodes list out after places lent places' i number x formed e lt is same step more went =
     subst (λ (old : List Node). Went nodes.inputs P old after places') (sym (take_more list i x lt ∙ ap (λ (y : Node). take i list ++ y ∷ []) (sym is)))
-        (subst (λ (ps : List ℕ). Went nodes.inputs P (take i list ++ x ∷ []) after ps) (ap (λ (ps : List ℕ). ps ++ number ∷ []) same ∙ sym more)
-            (step nodes.inputs (take i list) (subst (λ (ps : List ℕ). Went nodes.inputs P (take i list) out ps) (sym same) went) (node_of nodes list i x formed e lt is)))
+    (subst (λ (ps : List ℕ). Went nodes.inputs P (take i list ++ x ∷ []) after ps) (ap (λ (ps : List ℕ). ps ++ number ∷ []) same ∙ sym more)
+    (step nodes.inputs (take i list) (subst (λ (ps : List ℕ). Went nodes.inputs P (take i list) out ps) (sym same) went) (node_of nodes list i x formed e lt is)))
 
 pub went_start : (P : ℕ → Type 0) (inputs : ℕ) (list out : List Node) (places : List ℕ) → out ≡ [] → places ≡ [] → Went inputs P (take 0 list) out places
 went_start P inputs list out places no_nodes no_places =

@@ -90,12 +90,7 @@ fn cone(alloc: Global, list: &[Node], fails: u32) -> Result<Vec<bool>, Memory>
 }
 
 /// One node more, if it is needed: its number, or the one that it would have.
-fn keep_next(
-    out: &mut NodeList,
-    places: &[u32],
-    node: Node,
-    needed: bool,
-) -> Result<u32, Memory>
+fn keep_next(out: &mut NodeList, places: &[u32], node: Node, needed: bool) -> Result<u32, Memory>
     requires few { length out.old < 2 ^ 32 }
     requires operands { Operands (length places.now) node }
     ensures kept { IfOk result (λ number. out.new ≡ kept needed places.now node out.old) }

@@ -17,12 +17,7 @@ pub enum Folded {
 }
 
 /// What a binary operator comes to at two known operands.
-fn both_known(
-    op: Binary,
-    kind: IntType,
-    a: Option<Value>,
-    b: Option<Value>,
-) -> Option<Value>
+fn both_known(op: Binary, kind: IntType, a: Option<Value>, b: Option<Value>) -> Option<Value>
     requires left { IsWordIfKnown a }
     requires right { IsWordIfKnown b }
     ensures value { IfSome result (λ v. (x y : ℕ) → IsKnown a x → IsKnown b y → v ≡ binary_value op x y kind) }

@@ -7,5 +7,5 @@ abbrev pub invariant-loop-left : goal.invariant-loop-left
 invariant-loop-left l = record {
   count : length l.flags.items ≡ length l.list;
   more : NeedsMore l.initial.flags.items l.flags.items;
-  closed : IsClosedFrom (l.size - l.left) l.list l.flags.items
+  closed : IsClosedFrom (l.size - l.left) l.list l.flags.items;
 }

@@ -12,7 +12,7 @@ returns-in-Unary c = subst (λ (n : Node). FoldsBehind c.args.out.now n c.fold_u
 pub returns-in-Binary : goal.returns-in-Binary
 returns-in-Binary c = subst (λ (n : Node). FoldsBehind c.args.out.now n c.fold_binary.result) (sym c.in-Binary.is)
     (folds_behind c.args.out.now (Binary c.in-Binary.op c.in-Binary.kind c.in-Binary.left c.in-Binary.right) (KnowsBoth c.in-Binary.left c.known-in-Binary.result c.in-Binary.right c.known-in-Binary-2.result) c.fold_binary.result
-        c.requires.nodes c.fold_binary.ensures (λ input. (c.known-in-Binary.ensures.known input, c.known-in-Binary-2.ensures.known input)))
+    c.requires.nodes c.fold_binary.ensures (λ input. (c.known-in-Binary.ensures.known input, c.known-in-Binary-2.ensures.known input)))
 
 pub returns-in-Choose : goal.returns-in-Choose
 returns-in-Choose c = subst (λ (n : Node). FoldsBehind c.args.out.now n c.fold_choice.result) (sym c.in-Choose.is)

@@ -11,10 +11,10 @@ loop-i-init c = went_start AnyNode c.args.nodes.now.inputs c.items-list.result.n
 pub fold_next-requires-clause-operands : goal.fold_next-requires-clause-operands
 fold_next-requires-clause-operands c =
     operands_of AnyNode c.args.nodes.now c.items-list.result.now c.loop-i.out c.loop-i.places c.items.result.now c.loop-i.i (get_or c.items-list.result.now c.loop-i.i (Constant 0)) c.requires.formed c.items-list.ensures c.loop-i-test.true
-        (get_or_default c.items-list.result.now c.loop-i.i (Constant 0) (get_or c.items-list.result.now c.loop-i.i (Constant 0)) c.loop-i-test.true) c.loop-i.invariant c.items.ensures
+    (get_or_default c.items-list.result.now c.loop-i.i (Constant 0) (get_or c.items-list.result.now c.loop-i.i (Constant 0)) c.loop-i-test.true) c.loop-i.invariant c.items.ensures
 
 pub loop-i-preserved : goal.loop-i-preserved
 loop-i-preserved c =
     went_turn AnyNode c.args.nodes.now c.items-list.result.now c.loop-i.out c.fold_next.new.out c.loop-i.places c.items.result.now c.push.new.self c.loop-i.i c.in_ok-number.number (get_or c.items-list.result.now c.loop-i.i (Constant 0))
-        c.requires.formed c.items-list.ensures c.loop-i-test.true (get_or_default c.items-list.result.now c.loop-i.i (Constant 0) (get_or c.items-list.result.now c.loop-i.i (Constant 0)) c.loop-i-test.true)
-        c.items.ensures c.in_ok-number.ensures c.in_ok-push.ensures.ok c.loop-i.invariant
+    c.requires.formed c.items-list.ensures c.loop-i-test.true (get_or_default c.items-list.result.now c.loop-i.i (Constant 0) (get_or c.items-list.result.now c.loop-i.i (Constant 0)) c.loop-i-test.true)
+    c.items.ensures c.in_ok-number.ensures c.in_ok-push.ensures.ok c.loop-i.invariant
