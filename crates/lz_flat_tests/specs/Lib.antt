@@ -1,1 +1,2 @@
 pub mod MarksExamples
+pub mod FoldingExample

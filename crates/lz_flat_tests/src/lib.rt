@@ -1,5 +1,7 @@
-//! Tests of the crates over flat programs, and nothing else.
+//! Tests of the crates over flat programs and nodes, and nothing else.
 #![tactic(auto)]
 
+#[cfg(test)]
+mod folding;
 #[cfg(test)]
 mod marks;
