@@ -1,0 +1,13 @@
+mod ArgumentsLemmas
+mod CallsLemmas
+mod CellsLemmas
+mod DeclaratorLemmas
+mod ExpressionLemmas
+mod FileLemmas
+mod NumberingLemmas
+mod PlacesLemmas
+mod SignaturesLemmas
+mod StatementLemmas
+mod TwinsLemmas
+mod TypesLemmas
+mod WalkLemmas
