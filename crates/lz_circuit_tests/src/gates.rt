@@ -7,6 +7,7 @@ use lz_base::Memory;
 use lz_cnf::{Assignment, Lit};
 use lz_gates::Builder;
 use std::alloc::Global;
+use std::process::Abort;
 use std::test::Fail;
 
 /// The two values of a variable.
@@ -117,6 +118,18 @@ fn made(alloc: Global, gate: Gate) -> Result<(u32, u32, usize), Memory> {
     Ok((lit.0, formula.variables, formula.clauses.items().len()))
 }
 
+/// A gate, what is made of it, and the reason of the row.
+type Row<'a> = (Gate, (u32, u32, usize), &'a str);
+
+/// Makes each row's gate.
+fn gates_agree(rt: &impl Abort, alloc: Global, rows: &[Row<'_>]) -> Result<(), Fail> {
+    for (gate, wanted, reason) in rows {
+        let found = made(alloc, *gate).ok().ok_or("memory")?;
+        assert_eq!(rt; found, *wanted, "{reason}");
+    }
+    Ok(())
+}
+
 /// Gates with constant, equal or opposite operands take no variable and no clause; a choice with a constant side is a
 /// conjunction, or the negation of one.
 #[test]
@@ -124,7 +137,7 @@ fn gates_fold(rt: HostRuntime) -> Result<(), Fail> {
     use Gate::{And, Choose, Xor};
     use Operand::{NotX, Off, On, X, Y};
 
-    let table = [
+    let table: [Row<'_>; 18] = [
         (And(X, On), (2, 3, 1), "true leaves the other"),
         (And(Off, X), (1, 3, 1), "false is the conjunction"),
         (And(X, X), (2, 3, 1), "both are the same"),
@@ -160,11 +173,7 @@ fn gates_fold(rt: HostRuntime) -> Result<(), Fail> {
             "the negation of that of the negations",
         ),
     ];
-    for (gate, wanted, reason) in table {
-        let found = made(rt.alloc(), gate).ok().ok_or("memory")?;
-        assert_eq!(rt; found, wanted, "{reason}");
-    }
-    Ok(())
+    gates_agree(&rt, rt.alloc(), &table)
 }
 
 /// A builder that gave up answers want of memory.

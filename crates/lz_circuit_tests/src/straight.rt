@@ -8,6 +8,7 @@ use lz_base::{Binary, BreakKind, IntType, Memory, Sequence};
 use lz_flat::{FlatExpr, Guarded, GuardedList, Instr, Spot, Straight, binary_expr, straight_run};
 use lz_ssa::{eval, nodes};
 use std::alloc::Global;
+use std::process::Abort;
 use std::test::Fail;
 
 /// Whether one more than word 0 is greater than it.
@@ -62,6 +63,23 @@ fn fails_with(alloc: Global, straight: &Straight, input: u32) -> Result<(bool, b
     Ok((values[made.fails as usize] != 0, ran))
 }
 
+/// Compares whether the example fails on each row's input.
+fn inputs_agree(
+    rt: &impl Abort,
+    alloc: Global,
+    straight: &Straight,
+    rows: &[(u32, bool, &str)],
+) -> Result<(), Fail>
+    requires { straight_program straight.now ≡ example }
+{
+    for (input, fails, reason) in rows {
+        let (by_nodes, by_itself) = fails_with(alloc, straight, *input).ok().ok_or("memory")?;
+        assert_eq!(rt; by_nodes, *fails, "by its nodes: {reason}");
+        assert_eq!(rt; by_itself, *fails, "by itself: {reason}");
+    }
+    Ok(())
+}
+
 /// One more than the greatest `int` wraps, and is not greater.
 #[test]
 fn the_greatest_int_has_no_greater(rt: HostRuntime) -> Result<(), Fail> {
@@ -70,12 +88,5 @@ fn the_greatest_int_has_no_greater(rt: HostRuntime) -> Result<(), Fail> {
         (2_147_483_647, true, "one more is the least `int`"),
         (5, false, "6 is greater"),
     ];
-    for (input, fails, reason) in table {
-        let (by_nodes, by_itself) = fails_with(rt.alloc(), &straight, input)
-            .ok()
-            .ok_or("memory")?;
-        assert_eq!(rt; by_nodes, fails, "by its nodes: {reason}");
-        assert_eq!(rt; by_itself, fails, "by itself: {reason}");
-    }
-    Ok(())
+    inputs_agree(&rt, rt.alloc(), &straight, &table)
 }

@@ -9,6 +9,7 @@ use lz_arith::{Bits, binary_bits, choose_bits, convert_bits, truth_bit, unary_bi
 use lz_base::{Binary, IntType, Memory, Unary};
 use lz_gates::Builder;
 use std::alloc::Global;
+use std::process::Abort;
 use std::test::Fail;
 
 /// A word of fresh literals.
@@ -48,6 +49,40 @@ fn unary_length(alloc: Global, op: Unary, t: IntType) -> Result<usize, Fail> {
     Ok(bits.items().len())
 }
 
+/// Compares the length of what each binary operator answers in both kinds.
+fn binary_lengths_agree(rt: &impl Abort, alloc: Global, operators: &[Binary]) -> Result<(), Fail> {
+    for op in operators {
+        assert_eq!(rt;
+            binary_length(alloc, *op, IntType::Int)?,
+            32,
+            "{op:?} with sign"
+        );
+        assert_eq!(rt;
+            binary_length(alloc, *op, IntType::Unsigned)?,
+            32,
+            "{op:?} without sign"
+        );
+    }
+    Ok(())
+}
+
+/// The same of each unary operator.
+fn unary_lengths_agree(rt: &impl Abort, alloc: Global, operators: &[Unary]) -> Result<(), Fail> {
+    for op in operators {
+        assert_eq!(rt;
+            unary_length(alloc, *op, IntType::Int)?,
+            32,
+            "{op:?} with sign"
+        );
+        assert_eq!(rt;
+            unary_length(alloc, *op, IntType::Unsigned)?,
+            32,
+            "{op:?} without sign"
+        );
+    }
+    Ok(())
+}
+
 /// Every binary operator answers a word in both kinds.
 #[test]
 fn binary_operators_answer_words(rt: HostRuntime) -> Result<(), Fail> {
@@ -71,37 +106,14 @@ fn binary_operators_answer_words(rt: HostRuntime) -> Result<(), Fail> {
         Binary::Both,
         Binary::Either,
     ];
-    for op in operators {
-        assert_eq!(rt;
-            binary_length(rt.alloc(), op, IntType::Int)?,
-            32,
-            "{op:?} with sign"
-        );
-        assert_eq!(rt;
-            binary_length(rt.alloc(), op, IntType::Unsigned)?,
-            32,
-            "{op:?} without sign"
-        );
-    }
-    Ok(())
+    binary_lengths_agree(&rt, rt.alloc(), &operators)
 }
 
 /// Every unary operator answers a word in both kinds.
 #[test]
 fn unary_operators_answer_words(rt: HostRuntime) -> Result<(), Fail> {
-    for op in [Unary::Plus, Unary::Minus, Unary::Invert, Unary::Not] {
-        assert_eq!(rt;
-            unary_length(rt.alloc(), op, IntType::Int)?,
-            32,
-            "{op:?} with sign"
-        );
-        assert_eq!(rt;
-            unary_length(rt.alloc(), op, IntType::Unsigned)?,
-            32,
-            "{op:?} without sign"
-        );
-    }
-    Ok(())
+    let operators = [Unary::Plus, Unary::Minus, Unary::Invert, Unary::Not];
+    unary_lengths_agree(&rt, rt.alloc(), &operators)
 }
 
 /// A conversion answers the word itself.

@@ -3,6 +3,7 @@
 use lz_cnf::{Clause, Clauses, Cnf, Lit};
 use lz_log::{Hints, Log, LogStep, ProofError, Scratch, check_log, print_proof, read_proof};
 use std::alloc::Global;
+use std::process::Abort;
 use std::test::Fail;
 
 /// A clause of these literals.
@@ -40,11 +41,27 @@ fn one_step(alloc: Global, lits: &[u32], hints: &[u32]) -> Result<Log, Fail> {
     Ok(log)
 }
 
-/// Logs of one step, each with what its check answers: None where it refutes, else the bad step.
+/// The reason of a row, the literals and the hints of a step, and what the check of its log answers: None where it refutes,
+/// else the bad step.
+type LogRow<'a> = (&'a str, &'a [u32], &'a [u32], Option<u64>);
+
+/// Checks each row's log of the formula of one variable.
+fn logs_agree(rt: &impl Abort, alloc: Global, rows: &[LogRow<'_>]) -> Result<(), Fail> {
+    let formula = both(alloc)?;
+    assert!(rt; formula.is_formula(), "a formula");
+    for (reason, lits, hints, wanted) in rows {
+        let log = one_step(alloc, lits, hints)?;
+        let mut scratch = Scratch::new(alloc, formula.variables).ok().ok_or("memory")?;
+        let bad = check_log(&formula, &log, &mut scratch).err();
+        assert_eq!(rt; bad.map(|b| b.index), *wanted, "{reason}");
+    }
+    Ok(())
+}
+
+/// Logs of one step, each with what its check answers.
 #[test]
 fn logs_of_one_step(rt: HostRuntime) -> Result<(), Fail> {
-    let alloc = rt.alloc();
-    let rows: [(&str, &[u32], &[u32], Option<u64>); 7] = [
+    let rows: [LogRow<'_>; 7] = [
         ("both hints are needed, in this order", &[], &[1, 2], None),
         ("the last hint's clause is only unit", &[], &[1], Some(0)),
         ("no hint", &[], &[], Some(0)),
@@ -53,15 +70,7 @@ fn logs_of_one_step(rt: HostRuntime) -> Result<(), Fail> {
         ("no step is empty", &[0], &[1], Some(1)),
         ("a variable that the formula lacks", &[2], &[1, 2], Some(0)),
     ];
-    let formula = both(alloc)?;
-    assert!(rt; formula.is_formula(), "a formula");
-    for (reason, lits, hints, wanted) in rows {
-        let log = one_step(alloc, lits, hints)?;
-        let mut scratch = Scratch::new(alloc, formula.variables).ok().ok_or("memory")?;
-        let bad = check_log(&formula, &log, &mut scratch).err();
-        assert_eq!(rt; bad.map(|b| b.index), wanted, "{reason}");
-    }
-    Ok(())
+    logs_agree(&rt, rt.alloc(), &rows)
 }
 
 /// The text of a formula and its log.
@@ -78,11 +87,23 @@ fn prints_a_proof(rt: HostRuntime) -> Result<(), Fail> {
     Ok(())
 }
 
+/// The reason of a row, a text, and what reading it and checking its log answers.
+type ProofRow<'a> = (&'a str, &'a [u8], Read);
+
+/// Reads each row's text.
+fn proofs_agree(rt: &impl Abort, alloc: Global, rows: &[ProofRow<'_>]) -> Result<(), Fail> {
+    for (reason, text, wanted) in rows {
+        let found = read_and_check(alloc, text)?;
+        assert_eq!(rt; found, *wanted, "{reason}");
+    }
+    Ok(())
+}
+
 /// Texts, each with what reading it and checking its log answers: a line that says nothing, a step that does not follow,
 /// or neither.
 #[test]
 fn reads_a_proof(rt: HostRuntime) -> Result<(), Fail> {
-    let rows: [(&str, &[u8], Read); 19] = [
+    let rows: [ProofRow<'_>; 19] = [
         (
             "both clauses refute",
             b"p cnf 1 2\n1 0\n-1 0\nl 0 1 2 0\n",
@@ -163,11 +184,7 @@ fn reads_a_proof(rt: HostRuntime) -> Result<(), Fail> {
             Read::BadStep(0),
         ),
     ];
-    for (reason, text, wanted) in rows {
-        let found = read_and_check(rt.alloc(), text)?;
-        assert_eq!(rt; found, wanted, "{reason}");
-    }
-    Ok(())
+    proofs_agree(&rt, rt.alloc(), &rows)
 }
 
 /// What reading a text and checking its log answers.

@@ -3,6 +3,7 @@
 use lz_cnf::{Clause, Clauses, Cnf, Lit};
 use lz_prop::{Propagated, Trail};
 use std::alloc::Global;
+use std::process::Abort;
 use std::test::Fail;
 
 /// A formula of these clauses, none of which has more than two literals.
@@ -17,11 +18,27 @@ fn formula_of(alloc: Global, variables: u32, rows: &[(u32, u32)]) -> Result<Cnf,
     Ok(Cnf { variables, clauses })
 }
 
+/// The reason of a row, clauses of two variables, what propagation finds, and how many variables are then set.
+type Row<'a> = (&'a str, &'a [(u32, u32)], Propagated, usize);
+
+/// Propagates in each row's formula.
+fn rows_propagate(rt: &impl Abort, alloc: Global, rows: &[Row<'_>]) -> Result<(), Fail> {
+    for (reason, clauses, wanted, set) in rows {
+        let formula = formula_of(alloc, 2, clauses)?;
+        assert!(rt; formula.is_formula(), "a formula");
+        assert!(rt; formula.has_no_empty_clause(), "no empty clause");
+        let mut trail = Trail::new(alloc, &formula).ok().ok_or("memory")?;
+        let found = trail.propagate().ok().ok_or("memory")?;
+        assert_eq!(rt; found, *wanted, "{reason}");
+        assert_eq!(rt; trail.order().len(), *set, "{reason}");
+    }
+    Ok(())
+}
+
 /// What propagation finds before any decision.
 #[test]
 fn propagates_at_the_start(rt: HostRuntime) -> Result<(), Fail> {
-    let alloc = rt.alloc();
-    let rows: [(&str, &[(u32, u32)], Propagated, usize); 4] = [
+    let rows: [Row<'_>; 4] = [
         ("nothing follows from no clause", &[], Propagated::Quiet, 0),
         ("two literals are open", &[(0, 2)], Propagated::Quiet, 0),
         (
@@ -37,14 +54,5 @@ fn propagates_at_the_start(rt: HostRuntime) -> Result<(), Fail> {
             1,
         ),
     ];
-    for (reason, clauses, wanted, set) in rows {
-        let formula = formula_of(alloc, 2, clauses)?;
-        assert!(rt; formula.is_formula(), "a formula");
-        assert!(rt; formula.has_no_empty_clause(), "no empty clause");
-        let mut trail = Trail::new(alloc, &formula).ok().ok_or("memory")?;
-        let found = trail.propagate().ok().ok_or("memory")?;
-        assert_eq!(rt; found, wanted, "{reason}");
-        assert_eq!(rt; trail.order().len(), set, "{reason}");
-    }
-    Ok(())
+    rows_propagate(&rt, rt.alloc(), &rows)
 }

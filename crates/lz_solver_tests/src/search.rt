@@ -6,6 +6,7 @@ use lz_cnf::{Clause, Cnf, Lit};
 use lz_prop::{Propagated, Trail};
 use lz_solve::{Solved, solve};
 use std::alloc::Global;
+use std::process::Abort;
 use std::test::Fail;
 
 /// Ends a clause in the tables.
@@ -43,12 +44,25 @@ fn answer(alloc: Global, cnf: &Cnf, conflicts: u64) -> Result<(&'static str, usi
     }
 }
 
+/// A formula's variables and numbers, the conflicts that are allowed, the kind of the answer with the number of its values or
+/// steps, and the reason of the row.
+type Row<'a> = (u32, &'a [u32], u64, &'a str, usize, &'a str);
+
+/// Solves each row's formula.
+fn rows_answer(rt: &impl Abort, alloc: Global, rows: &[Row<'_>]) -> Result<(), Fail> {
+    for (variables, numbers, conflicts, kind, count, reason) in rows {
+        let cnf = formula(alloc, *variables, numbers)?;
+        let (was, len) = answer(alloc, &cnf, *conflicts)?;
+        assert!(rt; was == *kind && len == *count, "{reason}");
+    }
+    Ok(())
+}
+
 /// Formulas, each with the conflicts that are allowed and the answer.
 #[test]
 fn answers_with_ample_memory(rt: HostRuntime) -> Result<(), Fail> {
-    let alloc = rt.alloc();
     let square: &[u32] = &[0, 2, END, 1, 2, END, 0, 3, END, 1, 3, END];
-    let rows: [(u32, &[u32], u64, &str, usize, &str); 10] = [
+    let rows: [Row<'_>; 10] = [
         (0, &[], 1, "model", 0, "no variables and no clauses"),
         (1, &[], 1, "model", 1, "no clauses"),
         (1, &[1, END], 1, "model", 1, "one literal"),
@@ -95,12 +109,7 @@ fn answers_with_ample_memory(rt: HostRuntime) -> Result<(), Fail> {
             "no value of two variables, nine conflicts",
         ),
     ];
-    for (variables, numbers, conflicts, kind, count, reason) in rows {
-        let cnf = formula(alloc, variables, numbers)?;
-        let (was, len) = answer(alloc, &cnf, conflicts)?;
-        assert!(rt; was == kind && len == count, "{reason}");
-    }
-    Ok(())
+    rows_answer(&rt, rt.alloc(), &rows)
 }
 
 /// What propagation finds in a formula, and how many literals are then true.

@@ -8,6 +8,7 @@ use lz_model::Action;
 use lz_store::{Acted, Store};
 use lz_tree::{Scoped, ScopedFunctions};
 use std::alloc::Global;
+use std::process::Abort;
 use std::test::Fail;
 
 /// The store of a program with one cell of value 5 and one mutex.
@@ -44,10 +45,24 @@ fn first_answer(store: &mut Store, thread: u32, action: &Action) -> Option<Acted
     }
 }
 
+/// A thread, its action, what comes of it, and the reason of the row.
+type Row<'a> = (u32, Action, Acted, &'a str);
+
+/// Takes each row's action from the state in which the process begins.
+fn actions_agree(rt: &impl Abort, alloc: Global, rows: &[Row<'_>]) -> Result<(), Fail> {
+    for (thread, action, want, reason) in rows {
+        let mut store = begun(alloc).ok().ok_or("memory")?;
+        assert!(rt; store.cell(0) == 5, "{reason}");
+        let got = first_answer(&mut store, *thread, action);
+        assert!(rt; got == Some(*want), "{reason}");
+    }
+    Ok(())
+}
+
 /// What comes of one action from the state in which the process begins.
 #[test]
 fn first_actions(rt: HostRuntime) -> Result<(), Fail> {
-    let table: [(u32, Action, Acted, &str); 13] = [
+    let table: [Row<'_>; 13] = [
         (
             0,
             Action::Rd { cell: 0, value: 5 },
@@ -132,11 +147,5 @@ fn first_actions(rt: HostRuntime) -> Result<(), Fail> {
         ),
         (0, Action::Assume { value: 0 }, Acted::Blocked, "it fails"),
     ];
-    for (thread, action, want, reason) in table {
-        let mut store = begun(rt.alloc()).ok().ok_or("memory")?;
-        assert!(rt; store.cell(0) == 5, "{reason}");
-        let got = first_answer(&mut store, thread, &action);
-        assert!(rt; got == Some(want), "{reason}");
-    }
-    Ok(())
+    actions_agree(&rt, rt.alloc(), &table)
 }

@@ -2,14 +2,31 @@
 
 use lz_model::{Schedule, Step};
 use lz_replay::{ScheduleError, print_schedule, read_schedule};
+use std::alloc::Global;
+use std::process::Abort;
 use std::test::Fail;
 
 /// What is read of a text: the steps, or the first line without a reading.
-fn reading(rt: &HostRuntime, text: &[u8]) -> Option<Result<Schedule, ScheduleError>> {
+fn reading(alloc: Global, text: &[u8]) -> Option<Result<Schedule, ScheduleError>> {
     if text.len() > 1000 {
         return None;
     }
-    Some(read_schedule(rt.alloc(), text))
+    Some(read_schedule(alloc, text))
+}
+
+/// Reads each row's text, and compares what is printed for what was read.
+fn texts_agree(
+    rt: &impl Abort,
+    alloc: Global,
+    rows: &[(&[u8], &[u8], &'static str)],
+) -> Result<(), Fail> {
+    for (text, want, reason) in rows {
+        let read = reading(alloc, text).ok_or("too long")?;
+        let schedule = read.ok().ok_or(*reason)?;
+        let printed = print_schedule(alloc, &schedule).ok().ok_or("memory")?;
+        assert!(rt; printed.items() == *want, "{reason}");
+    }
+    Ok(())
 }
 
 /// Texts with a reading, and the text that is printed for what was read.
@@ -43,11 +60,18 @@ fn texts_with_a_reading(rt: HostRuntime) -> Result<(), Fail> {
             "what stands behind the word is not looked at",
         ),
     ];
-    for (text, want, reason) in table {
-        let read = reading(&rt, text).ok_or("too long")?;
-        let schedule = read.ok().ok_or(reason)?;
-        let printed = print_schedule(rt.alloc(), &schedule).ok().ok_or("memory")?;
-        assert!(rt; printed.items() == want, "{reason}");
+    texts_agree(&rt, rt.alloc(), &table)
+}
+
+/// Reads each row's text, and compares the line without a reading.
+fn lines_agree(rt: &impl Abort, alloc: Global, rows: &[(&[u8], u32, &str)]) -> Result<(), Fail> {
+    for (text, want, reason) in rows {
+        let read = reading(alloc, text).ok_or("too long")?;
+        let bad = match read {
+            Err(ScheduleError::Bad { line }) => line,
+            _ => 0,
+        };
+        assert!(rt; bad == *want, "{reason}");
     }
     Ok(())
 }
@@ -74,13 +98,5 @@ fn texts_without_a_reading(rt: HostRuntime) -> Result<(), Fail> {
         (b"step 0 +1\n", 1, "no sign"),
         (b"\nFAILED \n", 2, "nothing stands behind the word"),
     ];
-    for (text, want, reason) in table {
-        let read = reading(&rt, text).ok_or("too long")?;
-        let bad = match read {
-            Err(ScheduleError::Bad { line }) => line,
-            _ => 0,
-        };
-        assert!(rt; bad == want, "{reason}");
-    }
-    Ok(())
+    lines_agree(&rt, rt.alloc(), &table)
 }
