@@ -4,6 +4,7 @@ use lz_base::{Name, Sequence};
 use lz_parse::{ParseError, parse};
 use lz_tree::{External, Form, Keyword, Lead, Program, Punct, Token, TokenKind, Tokens};
 use std::alloc::Global;
+use std::process::Abort;
 use std::test::*;
 
 /// The token that a letter stands for.
@@ -127,9 +128,21 @@ fn answer(alloc: Global, letters: &str) -> Result<String, Fail> {
     }
 }
 
+/// Compares what is answered for each row's letters.
+fn programs_agree(rt: &impl Abort, alloc: Global, rows: &[(&str, &str, &str)]) -> Result<(), Fail> {
+    for (letters, wanted, why) in rows {
+        assert_eq!(rt;
+            answer(alloc, letters)?.as_str(),
+            *wanted,
+            "{letters}: {why}"
+        );
+    }
+    Ok(())
+}
+
 #[test]
 fn programs(rt: HostRuntime) -> Result<(), Fail> {
-    for (letters, wanted, why) in [
+    let rows = [
         ("", "no 0 1", "no token is no program"),
         ("Ix;", "objects 1 1;", "one object"),
         (
@@ -163,14 +176,8 @@ fn programs(rt: HostRuntime) -> Result<(), Fail> {
         ("Ix;;", "no 3 4", "nothing begins with a semicolon"),
         ("Ix", "no 2 3", "past the last token on the line of the end"),
         ("S", "no 1 2", "a type is missing"),
-    ] {
-        assert_eq!(rt;
-            answer(rt.alloc(), letters)?.as_str(),
-            wanted,
-            "{letters}: {why}"
-        );
-    }
-    Ok(())
+    ];
+    programs_agree(&rt, rt.alloc(), &rows)
 }
 
 /// `int main(void) { return 0; }` with so many parentheses around the `0`.
@@ -188,20 +195,26 @@ fn nested(alloc: Global, depth: u32) -> Result<String, Fail> {
     Ok(letters)
 }
 
-#[test]
-fn heights(rt: HostRuntime) -> Result<(), Fail> {
-    for (depth, wanted, why) in [
-        (197, "function 1 0 void;", "a tree of height 200"),
-        (198, "no 204 205", "one parenthesis has no room"),
-    ] {
-        let letters = nested(rt.alloc(), depth)?;
+/// Compares what is answered for so many parentheses.
+fn depths_agree(rt: &impl Abort, alloc: Global, rows: &[(u32, &str, &str)]) -> Result<(), Fail> {
+    for (depth, wanted, why) in rows {
+        let letters = nested(alloc, *depth)?;
         assert_eq!(rt;
-            answer(rt.alloc(), letters.as_str())?.as_str(),
-            wanted,
+            answer(alloc, letters.as_str())?.as_str(),
+            *wanted,
             "{depth}: {why}"
         );
     }
     Ok(())
+}
+
+#[test]
+fn heights(rt: HostRuntime) -> Result<(), Fail> {
+    let rows = [
+        (197, "function 1 0 void;", "a tree of height 200"),
+        (198, "no 204 205", "one parenthesis has no room"),
+    ];
+    depths_agree(&rt, rt.alloc(), &rows)
 }
 
 #[test]
