@@ -9,6 +9,7 @@ use lz_slots::{cost, slots};
 use lz_tree::{Scoped, Tokens};
 use lz_types::check;
 use std::alloc::Global;
+use std::process::Abort;
 use std::test::Fail;
 
 /// Four loops, one in the other.
@@ -19,7 +20,9 @@ const THREADS: &str =
     "void *f(void *a) { return NULL; } int main(void) { pthread_t t; while (1) pthread_create(&t, NULL, f, NULL); }";
 
 /// A text, the turns of a loop, the slots, and the reason of the row.
-const SLOTS: [(&str, u32, u64, &str); 4] = [
+type SlotRow = (&'static str, u32, u64, &'static str);
+
+const SLOTS: [SlotRow; 4] = [
     (THREADS, 17, 17, "a thread more than the command admits"),
     (THREADS, 16, 16, "as many as the command admits"),
     (THREADS, 0, 0, "no turn creates none"),
@@ -27,7 +30,9 @@ const SLOTS: [(&str, u32, u64, &str); 4] = [
 ];
 
 /// A text, the turns of a loop, the rounds, the cost, and the reason of the row.
-const COSTS: [(&str, u32, u32, u64, &str); 2] = [
+type CostRow = (&'static str, u32, u32, u64, &'static str);
+
+const COSTS: [CostRow; 2] = [
     (
         LOOPS,
         100,
@@ -91,15 +96,26 @@ fn measured(alloc: Global, text: &str, unwind: u32, rounds: u32) -> Option<(u64,
     }
 }
 
-#[test]
-fn other_bounds(rt: HostRuntime) -> Result<(), Fail> {
-    for (text, unwind, slots, reason) in SLOTS {
-        let sums = measured(rt.alloc(), text, unwind, 2).ok_or(reason)?;
-        assert_eq!(rt; sums.0, slots, "{reason}");
-    }
-    for (text, unwind, rounds, cost, reason) in COSTS {
-        let sums = measured(rt.alloc(), text, unwind, rounds).ok_or(reason)?;
-        assert_eq!(rt; sums.1, cost, "{reason}");
+/// Compares each row's slots.
+fn slots_agree(rt: &impl Abort, alloc: Global, rows: &[SlotRow]) -> Result<(), Fail> {
+    for (text, unwind, slots, reason) in rows {
+        let sums = measured(alloc, text, *unwind, 2).ok_or(*reason)?;
+        assert_eq!(rt; sums.0, *slots, "{reason}");
     }
     Ok(())
+}
+
+/// Compares each row's cost.
+fn costs_agree(rt: &impl Abort, alloc: Global, rows: &[CostRow]) -> Result<(), Fail> {
+    for (text, unwind, rounds, cost, reason) in rows {
+        let sums = measured(alloc, text, *unwind, *rounds).ok_or(*reason)?;
+        assert_eq!(rt; sums.1, *cost, "{reason}");
+    }
+    Ok(())
+}
+
+#[test]
+fn other_bounds(rt: HostRuntime) -> Result<(), Fail> {
+    slots_agree(&rt, rt.alloc(), &SLOTS)?;
+    costs_agree(&rt, rt.alloc(), &COSTS)
 }

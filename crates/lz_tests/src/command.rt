@@ -626,10 +626,24 @@ fn reports_of_files(rt: HostRuntime) -> Result<(), Fail> {
     compare_rows(&rt, rt.alloc(), &REFUSED)
 }
 
-/// Words that name a file and words that don't: the report, the status, and the reason of the row.
+/// Words, the report, the status, and the reason of the row.
+type WordRow<'a> = (&'a [&'a str], &'a str, u8, &'a str);
+
+/// Calls the command with each row's words.
+fn words_agree(rt: &impl Abort, alloc: Global, rows: &[WordRow<'_>]) -> Result<(), Fail> {
+    for (words, report, status, reason) in rows {
+        let told = call(alloc, words, b"int main(void){}", AMPLE)
+            .ok()
+            .ok_or("memory")?;
+        compare(rt, &told, report, *status, reason);
+    }
+    Ok(())
+}
+
+/// Words that name a file and words that don't.
 #[test]
 fn reports_of_words(rt: HostRuntime) -> Result<(), Fail> {
-    let table: [(&[&str], &str, u8, &str); 12] = [
+    let table: [WordRow<'_>; 12] = [
         (&["no.c"], "READ no.c\n", 6, "no file of the name"),
         (
             &[""],
@@ -668,17 +682,13 @@ fn reports_of_words(rt: HostRuntime) -> Result<(), Fail> {
             "a proof file whose name begins with -",
         ),
     ];
-    for (words, report, status, reason) in table {
-        let told = call(rt.alloc(), words, b"int main(void){}", AMPLE)
-            .ok()
-            .ok_or("memory")?;
-        compare(&rt, &told, report, status, reason);
-    }
-    Ok(())
+    words_agree(&rt, rt.alloc(), &table)
 }
 
 /// The turns of a loop, a text, the report, the status, and the reason of the row.
-const TURNS: [(&str, &str, &str, u8, &str); 8] = [
+type TurnRow = (&'static str, &'static str, &'static str, u8, &'static str);
+
+const TURNS: [TurnRow; 8] = [
     (
         "3",
         "int main(void) { int i = 0; while (i < 3) i = i + 1; assert(i != 3); }",
@@ -737,23 +747,36 @@ const TURNS: [(&str, &str, &str, u8, &str); 8] = [
     ),
 ];
 
-#[test]
-fn reports_within_turns(rt: HostRuntime) -> Result<(), Fail> {
-    for (turns, text, report, status, reason) in TURNS {
-        let told = call(
-            rt.alloc(),
-            &["--unwind", turns, "a.c"],
-            text.as_bytes(),
-            AMPLE,
-        )
-        .ok()
-        .ok_or("memory")?;
-        compare(&rt, &told, report, status, reason);
+/// Calls the command with each row's turns.
+fn turns_agree(rt: &impl Abort, alloc: Global, rows: &[TurnRow]) -> Result<(), Fail> {
+    for (turns, text, report, status, reason) in rows {
+        let told = call(alloc, &["--unwind", turns, "a.c"], text.as_bytes(), AMPLE)
+            .ok()
+            .ok_or("memory")?;
+        compare(rt, &told, report, *status, reason);
     }
     Ok(())
 }
 
-/// Proof files: the report, the status, and the reason of the row. None has evidence.
+#[test]
+fn reports_within_turns(rt: HostRuntime) -> Result<(), Fail> {
+    turns_agree(&rt, rt.alloc(), &TURNS)
+}
+
+/// Rechecks each row's text as a proof file. None has evidence.
+fn proofs_agree(rt: &impl Abort, alloc: Global, rows: &[Row]) -> Result<(), Fail> {
+    for (text, report, status, reason) in rows {
+        let told = call(alloc, &["--mode", "recheck", "a.c"], text.as_bytes(), AMPLE)
+            .ok()
+            .ok_or("memory")?;
+        assert_eq!(rt; told.text.items(), report.as_bytes(), "{reason}");
+        assert_eq!(rt; told.ended.status, *status, "{reason}");
+        assert!(rt; !has_proof(&told.ended), "{reason}");
+    }
+    Ok(())
+}
+
+/// Proof files: the report, the status, and the reason of the row.
 #[test]
 fn rechecks(rt: HostRuntime) -> Result<(), Fail> {
     let table: [Row; 7] = [
@@ -800,20 +823,7 @@ fn rechecks(rt: HostRuntime) -> Result<(), Fail> {
             "a step that names itself",
         ),
     ];
-    for (text, report, status, reason) in table {
-        let told = call(
-            rt.alloc(),
-            &["--mode", "recheck", "a.c"],
-            text.as_bytes(),
-            AMPLE,
-        )
-        .ok()
-        .ok_or("memory")?;
-        assert_eq!(rt; told.text.items(), report.as_bytes(), "{reason}");
-        assert_eq!(rt; told.ended.status, status, "{reason}");
-        assert!(rt; !has_proof(&told.ended), "{reason}");
-    }
-    Ok(())
+    proofs_agree(&rt, rt.alloc(), &table)
 }
 
 /// A text before, a text so many times, and a text behind.
@@ -833,17 +843,42 @@ fn repeated(
     Ok(text)
 }
 
-/// Files of a repeated part, at a limit and past it: the report, the status, and the reason of the row.
+/// A text before, how often a part stands, the part, a text behind, the report, the status, and the reason of the row.
+type LimitRow = (
+    &'static str,
+    u32,
+    &'static str,
+    &'static str,
+    &'static str,
+    u8,
+    &'static str,
+);
+
+/// Calls the command with each row's file.
+fn limits_agree(rt: &impl Abort, alloc: Global, rows: &[LimitRow]) -> Result<(), Fail> {
+    for (before, times, part, behind, report, status, reason) in rows {
+        let source = repeated(alloc, before, *times, part, behind)
+            .ok()
+            .ok_or("memory")?;
+        let told = call_with(alloc, &["a.c"], source, AMPLE, Calls::new(alloc))
+            .ok()
+            .ok_or("memory")?;
+        compare(rt, &told, report, *status, reason);
+    }
+    Ok(())
+}
+
+/// Files of a repeated part, at a limit and past it.
 #[test]
 fn limits(rt: HostRuntime) -> Result<(), Fail> {
-    for (before, times, part, behind, report, status, reason) in [
+    let rows: [LimitRow; 8] = [
         (
             "",
-            1_048_577u32,
+            1_048_577,
             " ",
             "",
             "LIMIT file over 1048576 bytes\n",
-            5u8,
+            5,
             "a byte too many",
         ),
         (
@@ -909,17 +944,8 @@ fn limits(rt: HostRuntime) -> Result<(), Fail> {
             4,
             "a node of height 201, in a whole program",
         ),
-    ] {
-        let source = repeated(rt.alloc(), before, times, part, behind)
-            .ok()
-            .ok_or("memory")?;
-        let fails = Calls::new(rt.alloc());
-        let told = call_with(rt.alloc(), &["a.c"], source, AMPLE, fails)
-            .ok()
-            .ok_or("memory")?;
-        compare(&rt, &told, report, status, reason);
-    }
-    Ok(())
+    ];
+    limits_agree(&rt, rt.alloc(), &rows)
 }
 
 /// A sink with room for five bytes takes a front of the report, and the evidence stays.

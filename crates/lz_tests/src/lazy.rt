@@ -12,6 +12,7 @@ use lz_flat::{
 };
 use lz_lazy::sequentialize;
 use std::alloc::Global;
+use std::process::Abort;
 use std::test::Fail;
 
 fn word_is_zero(alloc: Global) -> Result<FlatExpr, Memory>
@@ -100,12 +101,33 @@ fn fails_with(alloc: Global, straight: &Straight, ones: &[usize]) -> Result<bool
     Ok(straight_run(straight, inputs.items(), &mut memory))
 }
 
+/// Rounds, the number of statements, the places of the inputs that are 1, whether the program fails, and the reason of the row.
+type Row<'a> = (u32, usize, &'a [usize], bool, &'a str);
+
+/// Compares each row's straight program.
+fn rounds_agree(rt: &impl Abort, alloc: Global, flat: &Flat, rows: &[Row<'_>]) -> Result<(), Fail>
+    requires { flat_program flat.now ≡ example }
+{
+    for (rounds, statements, ones, fails, why) in rows {
+        let straight = rounds_of(alloc, flat, *rounds).ok().ok_or("memory")?;
+        assert_eq!(rt;
+            straight.list.items().len(),
+            *statements,
+            "statements: {why}"
+        );
+        assert_eq!(rt; straight.first.items().len(), 5, "words: {why}");
+        let answer = fails_with(alloc, &straight, ones).ok().ok_or("memory")?;
+        assert_eq!(rt; answer, *fails, "{why}");
+    }
+    Ok(())
+}
+
 /// One thread checks that word 0 is 0, the other sets it to 1. Each block has 15 inputs, and its first is
 /// the guess.
 #[test]
 fn a_check_after_a_write_needs_two_rounds(rt: HostRuntime) -> Result<(), Fail> {
     let flat = two_threads(rt.alloc()).ok().ok_or("memory")?;
-    let table: [(u32, usize, &[usize], bool, &str); 4] = [
+    let table: [Row<'_>; 4] = [
         (
             2,
             60,
@@ -123,18 +145,5 @@ fn a_check_after_a_write_needs_two_rounds(rt: HostRuntime) -> Result<(), Fail> {
         ),
         (1, 30, &[0, 15], false, "in one round thread 0 comes first"),
     ];
-    for (rounds, statements, ones, fails, why) in table {
-        let straight = rounds_of(rt.alloc(), &flat, rounds).ok().ok_or("memory")?;
-        assert_eq!(rt;
-            straight.list.items().len(),
-            statements,
-            "statements: {why}"
-        );
-        assert_eq!(rt; straight.first.items().len(), 5, "words: {why}");
-        let answer = fails_with(rt.alloc(), &straight, ones)
-            .ok()
-            .ok_or("memory")?;
-        assert_eq!(rt; answer, fails, "{why}");
-    }
-    Ok(())
+    rounds_agree(&rt, rt.alloc(), &flat, &table)
 }

@@ -6,6 +6,7 @@ use crate::told::AMPLE;
 use lz_base::{Bytes, Memory};
 use lz_outside::Calls;
 use std::alloc::Global;
+use std::process::Abort;
 use std::test::Fail;
 
 /// A program for each rule that breaks it.
@@ -663,10 +664,37 @@ fn arrays(alloc: Global, count: u32, behind: &str) -> Result<Bytes, Memory> {
     Ok(text)
 }
 
+/// A number of functions or arrays, a text behind them, the report, the status, and the reason of the row.
+type LargeRow = (u32, &'static str, &'static str, u8, &'static str);
+
+/// Compares what is told of each row's tower of functions.
+fn towers_agree(rt: &impl Abort, alloc: Global, rows: &[LargeRow]) -> Result<(), Fail> {
+    for (functions, behind, report, status, reason) in rows {
+        let text = tower(alloc, *functions, behind).ok().ok_or("memory")?;
+        let told = call_with(alloc, &["a.c"], text, AMPLE, Calls::new(alloc))
+            .ok()
+            .ok_or("memory")?;
+        compare(rt, &told, report, *status, reason);
+    }
+    Ok(())
+}
+
+/// Compares what is told of each row's arrays.
+fn arrays_agree(rt: &impl Abort, alloc: Global, rows: &[LargeRow]) -> Result<(), Fail> {
+    for (count, behind, report, status, reason) in rows {
+        let text = arrays(alloc, *count, behind).ok().ok_or("memory")?;
+        let told = call_with(alloc, &["a.c"], text, AMPLE, Calls::new(alloc))
+            .ok()
+            .ok_or("memory")?;
+        compare(rt, &told, report, *status, reason);
+    }
+    Ok(())
+}
+
 #[test]
 fn rules_of_large_files(rt: HostRuntime) -> Result<(), Fail> {
     let alloc = rt.alloc();
-    let towers: [(u32, &str, &str, u8, &str); 4] = [
+    let towers: [LargeRow; 4] = [
         (
             334,
             "void g(int a){ f333(); } int main(void) { }",
@@ -696,14 +724,8 @@ fn rules_of_large_files(rt: HostRuntime) -> Result<(), Fail> {
             "335 functions, the last of which is too high",
         ),
     ];
-    for (functions, behind, report, status, reason) in towers {
-        let text = tower(alloc, functions, behind).ok().ok_or("memory")?;
-        let told = call_with(alloc, &["a.c"], text, AMPLE, Calls::new(alloc))
-            .ok()
-            .ok_or("memory")?;
-        compare(&rt, &told, report, status, reason);
-    }
-    let rows: [(u32, &str, &str, u8, &str); 3] = [
+    towers_agree(&rt, alloc, &towers)?;
+    let rows: [LargeRow; 3] = [
         (
             16,
             "int\nx; int main(void) { }",
@@ -726,13 +748,7 @@ fn rules_of_large_files(rt: HostRuntime) -> Result<(), Fail> {
             "of two rules that the declarator of one element more breaks, the first",
         ),
     ];
-    for (count, behind, report, status, reason) in rows {
-        let text = arrays(alloc, count, behind).ok().ok_or("memory")?;
-        let told = call_with(alloc, &["a.c"], text, AMPLE, Calls::new(alloc))
-            .ok()
-            .ok_or("memory")?;
-        compare(&rt, &told, report, status, reason);
-    }
+    arrays_agree(&rt, alloc, &rows)?;
     let text = doubling(alloc, 61).ok().ok_or("memory")?;
     let told = call_with(alloc, &["a.c"], text, AMPLE, Calls::new(alloc))
         .ok()
@@ -766,18 +782,22 @@ fn over_cost(alloc: Global, cost: u64) -> Result<Bytes, Memory> {
     Ok(text)
 }
 
-#[test]
-fn costs(rt: HostRuntime) -> Result<(), Fail> {
-    let alloc = rt.alloc();
-    compare_rows(&rt, alloc, &LIMITS)?;
-    for (statements, own) in COSTS {
+/// Compares the cost of each row's statements.
+fn costs_agree(rt: &impl Abort, alloc: Global, rows: &[(&str, u64)]) -> Result<(), Fail> {
+    for (statements, own) in rows {
         let text = costly(alloc, statements).ok().ok_or("memory")?;
         let told = call_with(alloc, &["a.c"], text, AMPLE, Calls::new(alloc))
             .ok()
             .ok_or("memory")?;
-        let cost = BESIDE.saturating_add(own).saturating_mul(2);
+        let cost = BESIDE.saturating_add(*own).saturating_mul(2);
         let report = over_cost(alloc, cost).ok().ok_or("memory")?;
         assert_eq!(rt; told.text.items(), report.items(), "{statements}");
     }
     Ok(())
+}
+
+#[test]
+fn costs(rt: HostRuntime) -> Result<(), Fail> {
+    compare_rows(&rt, rt.alloc(), &LIMITS)?;
+    costs_agree(&rt, rt.alloc(), &COSTS)
 }
