@@ -4,3 +4,4 @@ pub mod LearntLemmas
 pub mod WalkLemmas
 pub mod WalkingLemmas
 pub mod LearnLemmas
+pub mod MarkedLemmas

@@ -1,6 +1,7 @@
 -- The steps of the walk, as the code takes them.
 use Rattle.std.proofs.Common.{◌≡◌, ℕ, zero, suc, ◌+◌, ◌-◌, ◌<◌, ◌≤◌, ◌⊎◌, inl, inr, ⊎_elim, Bool, true, false, not, cond, eqb, ◌&&◌, List, [], ◌∷◌, ◌++◌, length, get_or, take, reverse, Option, Some, None, IsSome, IfSome, refl, sym, ◌∙◌, ap, subst, arith}
 use Rattle.std.specs.List.{All, Contains, list_any, count_by}
+use Rattle.std.proofs.Math.Bool.{and-false}
 use Rattle.std.proofs.lemmas.Bool.{cases_lt, cases_eq, eqb-true, eq-eqb, ne_eqb, or_cases, and_parts, true≢false}
 use Rattle.std.proofs.lemmas.List.{get_or-take, get_or-map, length-take-le, length-map, length-reverse, reverse-append, take_all, get_or_default}
 use Rattle.std.proofs.lemmas.List.Sums.{count_by-le-length, count_by_more_no, count_by_more_yes}
@@ -308,12 +309,17 @@ level_at s k d lit trail lt is = ap (λ (l : Lit). level_in (entry_of s.set (var
 pub reason_told : (s : TrailState) (k : ℕ) (d : Entry) (lit : Lit) → IsTrail s → k < length s.set → lit ≡ (get_or s.set k d).lit → reason_in (entry_of s.set (variable_of lit)) ≡ (get_or s.set k d).reason
 reason_told s k d lit trail lt is = ap (λ (l : Lit). reason_in (entry_of s.set (variable_of l))) is ∙ ap reason_in (entry_told s k d trail lt)
 
-pub open_here : (level : ℕ) (marked : List ℕ) (e : Entry) (lit : Lit) (b : Bool) → lit ≡ e.lit → e.level ≡ level → b ≡ list_any (eqb (variable_of lit)) marked → b ≡ is_open level marked e
-open_here level marked e lit b is same any =
-    any ∙ ap (λ (l : Lit). list_any (eqb (variable_of l)) marked) is ∙ sym (ap (λ (x : Bool). x && list_any (eqb (variable_of e.lit)) marked) (eq-eqb e.level level same))
+-- the entry of a marked variable is open where it has the level
+pub open_marked : (level : ℕ) (marked : List ℕ) (e : Entry) (lit : Lit) (b : Bool) → lit ≡ e.lit → list_any (eqb (variable_of lit)) marked ≡ true → (b ≡ true → e.level ≡ level) → (e.level ≡ level → b ≡ true)
+    → b ≡ is_open level marked e
+open_marked level marked e lit true is any low high =
+    sym (ap (λ (x : Bool). x && list_any (eqb (variable_of e.lit)) marked) (eq-eqb e.level level (low refl)) ∙ ap (λ (l : Lit). list_any (eqb (variable_of l)) marked) (sym is) ∙ any)
+open_marked level marked e lit false is any low high =
+    sym (ap (λ (x : Bool). x && list_any (eqb (variable_of e.lit)) marked) (ne_eqb e.level level (λ same. true≢false (sym (high same)))))
 
-pub not_here : (level : ℕ) (marked : List ℕ) (e : Entry) (b : Bool) → (e.level ≡ level → ⊥) → b ≡ false → b ≡ is_open level marked e
-not_here level marked e b differs is = is ∙ sym (ap (λ (x : Bool). x && list_any (eqb (variable_of e.lit)) marked) (ne_eqb e.level level differs))
+pub not_marked : (level : ℕ) (marked : List ℕ) (e : Entry) (lit : Lit) (b : Bool) → lit ≡ e.lit → b ≡ false → b ≡ list_any (eqb (variable_of lit)) marked → b ≡ is_open level marked e
+not_marked level marked e lit b is off any =
+    off ∙ sym (ap (λ (x : Bool). eqb e.level level && x) (ap (λ (l : Lit). list_any (eqb (variable_of l)) marked) (sym is) ∙ sym any ∙ off) ∙ and-false (eqb e.level level))
 
 -- an open entry has the level, and its variable was met
 pub record IsOpenEntry (level : ℕ) (marked : List ℕ) (e : Entry) : Type 0 where

@@ -3,3 +3,4 @@ pub mod Walks
 pub mod Walking
 pub mod Highest
 pub mod LearntFrom
+pub mod Marked

@@ -1,4 +1,4 @@
-ghost use Rattle.std.specs.Prelude.{◌≡◌, ℕ, ◌<◌, ◌≤◌, ◌⊎◌, [], ◌∷◌, Some, reverse, IfOk};
+ghost use Rattle.std.specs.Prelude.{◌≡◌, ℕ, ◌<◌, ◌≤◌, ◌⊎◌, [], ◌∷◌, Some, reverse, IfOk, OnOk};
 ghost use Rattle.std.specs.List.{All};
 ghost use Rattle.lz_cnf.specs.Models.{variable_of};
 ghost use Rattle.lz_prop.specs.Trail.{IsTrail, IsFalseNamed, entry_of, level_in};
@@ -74,17 +74,17 @@ fn clause_of(alloc: Global, last: Lit, low: &[Lit]) -> Result<Clause, Memory>
     Ok(clause)
 }
 
-/// A walk that met the false clause.
-fn start(alloc: Global, trail: &Trail, level: u32, conflict: u32) -> Result<Walk, Memory>
+/// Lets a walk begin and meet the false clause.
+fn start(trail: &Trail, level: u32, walk: &mut Walk, conflict: u32) -> Result<(), Memory>
     requires trail { IsTrail trail.now }
     requires level { level ≡ trail.now.level }
     requires conflict { IsFalseNamed trail.now conflict }
-    ensures walk { IfOk result (λ w. IsWalkOver trail.now [] w) }
-    ensures enough { IfOk result (λ w. 0 < trail.now.level → 1 ≤ w.pending) }
+    ensures walk { OnOk result (IsWalkOver trail.now [] walk.new) }
+    ensures enough { OnOk result (0 < trail.now.level → 1 ≤ walk.new.pending) }
 {
-    let mut walk = Walk::new(alloc, trail, conflict)?;
+    walk.begin(trail, conflict)?;
     walk.look(trail, level, trail.clause(conflict))?;
-    Ok(walk)
+    Ok(())
 }
 
 /// The empty clause, by the hints of a walk at level 0.
@@ -124,16 +124,46 @@ fn point_clause(alloc: Global, trail: &Trail, level: u32, walk: &mut Walk) -> Re
     })
 }
 
+/// What the analysis of conflicts works with, kept from conflict to conflict so that none makes it anew. Any scratch
+/// serves any trail.
+#[derive(Drop)]
+pub struct Scratch {
+    walk: Walk,
+}
+
+impl Scratch {
+    /// A scratch that takes memory where it is used.
+    pub fn new(alloc: Global) -> Scratch {
+        Scratch {
+            walk: Walk::new(alloc),
+        }
+    }
+}
+
 /// The clause that is learnt from a false clause: the empty one exactly at level 0, else the one at the first unique
 /// implication point.
 pub fn learn(alloc: Global, trail: &Trail, conflict: u32) -> Result<Learnt, Memory>
     requires { IsFalseNamed trail.now conflict }
     ensures { IfOk result (λ l. IsLearntFrom trail.now l.clause l.hints l.level) }
 {
+    let mut scratch = Scratch::new(alloc);
+    learn_with(alloc, trail, &mut scratch, conflict)
+}
+
+/// What `learn` answers, in a scratch that was used before.
+pub fn learn_with(
+    alloc: Global,
+    trail: &Trail,
+    scratch: &mut Scratch,
+    conflict: u32,
+) -> Result<Learnt, Memory>
+    requires { IsFalseNamed trail.now conflict }
+    ensures { IfOk result (λ l. IsLearntFrom trail.now l.clause l.hints l.level) }
+{
     let level = trail.level();
-    let mut walk = start(alloc, trail, level, conflict)?;
+    start(trail, level, &mut scratch.walk, conflict)?;
     if level == 0 {
-        return empty_clause(alloc, trail, &mut walk);
+        return empty_clause(alloc, trail, &mut scratch.walk);
     }
-    point_clause(alloc, trail, level, &mut walk)
+    point_clause(alloc, trail, level, &mut scratch.walk)
 }

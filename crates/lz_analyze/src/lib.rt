@@ -2,6 +2,7 @@
 #![tactic(auto)]
 
 mod analysis;
+mod marks;
 mod walk;
 
-pub use analysis::{Learnt, learn};
+pub use analysis::{Learnt, Scratch, learn, learn_with};

@@ -5,7 +5,7 @@ ghost use Rattle.lz_cnf.specs.Models.{variable_of};
 ghost use Rattle.lz_prop.specs.Trail.{Entry, IsTrail, IsFalseNamed, entry_of, level_in};
 ghost use Rattle.lz_analyze.specs.Walks.{is_open};
 
-use indexmap::IndexSet;
+use crate::marks::Marks;
 use lz_base::Memory;
 use lz_cnf::Lit;
 use lz_prop::Trail;
@@ -13,11 +13,11 @@ use smallvec::SmallVec;
 use std::alloc::Global;
 
 /// A walk down the trail from a false clause: each literal of the present level that it met and that lies below its
-/// place is still to be resolved by its reason.
+/// place is still to be resolved by its reason. It is kept from conflict to conflict, with the memory that it has.
 #[derive(Drop)]
 pub struct Walk {
     /// The variables that were met.
-    pub marks: IndexSet<u32>,
+    pub marks: Marks,
     /// The literals that were met below the present level.
     pub low: SmallVec<Lit, 16>,
     /// The clauses that were looked at, the false one first.
@@ -42,22 +42,31 @@ fn is_at(trail: &Trail, variable: u32, level: u32) -> bool
 impl Walk {
     ghost use Rattle.lz_analyze.specs.Walking.{IsMet, IsWalkOver, IsLentFrom, IsLeftAt};
 
-    /// A walk that begins at the end of the order with this false clause.
-    pub fn new(alloc: Global, trail: &Trail, conflict: u32) -> Result<Walk, Memory>
+    /// A walk that has not begun.
+    pub fn new(alloc: Global) -> Walk {
+        Walk {
+            marks: Marks::new(alloc),
+            low: SmallVec::new(alloc),
+            hints: SmallVec::new(alloc),
+            pending: 0,
+            at: 0,
+        }
+    }
+
+    /// Begins at the end of the order with this false clause, and forgets what was met before.
+    pub fn begin(&mut self, trail: &Trail, conflict: u32) -> Result<(), Memory>
         requires trail { IsTrail trail.now }
         requires conflict { IsFalseNamed trail.now conflict }
-        ensures at { IfOk result (λ w. w.at ≡ length trail.now.set) }
-        ensures walk { IfOk result (λ w. (clause : List Lit) → IsLentFrom trail.now conflict clause → IsWalkOver trail.now clause w) }
+        ensures at { OnOk result (self.new.at ≡ length trail.now.set) }
+        ensures walk { OnOk result ((clause : List Lit) → IsLentFrom trail.now conflict clause → IsWalkOver trail.now clause self.new) }
     {
-        let mut hints = SmallVec::new(alloc);
-        hints.push(conflict)?;
-        Ok(Walk {
-            marks: IndexSet::new(alloc),
-            low: SmallVec::new(alloc),
-            hints,
-            pending: 0,
-            at: trail.order().len(),
-        })
+        self.marks.clear();
+        self.low.clear();
+        self.hints.clear();
+        self.hints.push(conflict)?;
+        self.pending = 0;
+        self.at = trail.order().len();
+        Ok(())
     }
 
     /// Meets a literal of the clause at hand, which is false or whose variable was met.
@@ -109,7 +118,7 @@ impl Walk {
         ensures { (d : Entry) → result ≡ is_open level self.now.marks.keys (slice_index_or trail.now.set (self.now.at - 1) d) }
     {
         let variable = trail.order()[self.at - 1].0 / 2;
-        is_at(trail, variable, level) && self.marks.contains(&variable)
+        self.marks.contains(variable) && is_at(trail, variable, level)
     }
 
     /// Goes down to the next entry of the present level that was met.

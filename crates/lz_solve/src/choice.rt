@@ -1,5 +1,5 @@
-ghost use Rattle.std.specs.Prelude.{◌≡◌, ℕ, ◌<◌, ◌≤◌, length, Some, IsTrue};
-ghost use Rattle.lz_prop.specs.Trail.{IsTrail, entry_of, level_in, gone_back};
+ghost use Rattle.std.specs.Prelude.{◌≡◌, ◌≤◌, length, Some, IsTrue};
+ghost use Rattle.lz_prop.specs.Trail.{IsTrail, gone_back};
 ghost use Rattle.lz_solve.specs.Search.{IsFree};
 
 use crate::order::Order;
@@ -49,46 +49,26 @@ pub fn choose(order: &mut Order, trail: &Trail, variables: u32) -> Option<u32>
     first_free(trail, variables)
 }
 
-/// The level of a variable, or 0.
-fn level_from(trail: &Trail, variable: u32, variables: u32) -> u32
-    requires { variables ≡ trail.now.variables }
-    ensures { (own : ℕ) → level_in (entry_of trail.now.set variable) ≡ Some own → variable < variables → own ≡ result }
-{
-    if variable >= variables {
-        return 0;
-    }
-    match trail.level_of(variable) {
-        Some(level) => level,
-        None => 0,
-    }
-}
-
-/// The variables above a level wait again.
-fn release(order: &mut Order, trail: &Trail, level: u32, variables: u32)
-    requires { variables ≡ trail.now.variables }
+/// The variables of the literals that became true after so many wait again.
+fn release(order: &mut Order, lits: &[Lit], from: usize)
     ensures { order.old.count ≤ order.new.count }
 {
-    let lits = trail.order();
     let mut left = lits.len();
-    while left > 0 {
+    while left > from {
         left -= 1;
-        let lit = lits[left];
-        if level_from(trail, lit.0 / 2, variables) <= level {
-            return;
-        }
-        order.release(lit);
+        order.release(lits[left]);
     }
 }
 
 /// Goes back to a level, and lets the variables above it wait again.
-pub fn go_back(order: &mut Order, trail: &mut Trail, level: u32, variables: u32)
-    requires variables { variables ≡ trail.old.variables }
+pub fn go_back(order: &mut Order, trail: &mut Trail, level: u32)
     requires level { level ≤ trail.old.level }
     ensures back { trail.new ≡ gone_back trail.old level }
     ensures waiting { order.old.count ≤ order.new.count }
     ensures trail { IsTrail trail.new }
 {
-    release(order, trail, level, variables);
+    let from = order.end_levels(level, trail.order().len());
+    release(order, trail.order(), from);
     trail.back(level);
 }
 
@@ -114,14 +94,13 @@ pub fn raise_hints(order: &mut Order, trail: &Trail, hints: &[u32], count: usize
 }
 
 /// Ends a conflict, and goes back to level 0 where a restart is due. The kept clauses stay.
-pub fn end_conflict(order: &mut Order, trail: &mut Trail, variables: u32)
-    requires { variables ≡ trail.old.variables }
+pub fn end_conflict(order: &mut Order, trail: &mut Trail)
     ensures trail { IsTrail trail.new }
     ensures variables { trail.new.variables ≡ trail.old.variables }
     ensures clauses { trail.new.clauses ≡ trail.old.clauses }
 {
     let level = trail.level();
     if order.end_conflict() && level > 0 {
-        go_back(order, trail, 0, variables);
+        go_back(order, trail, 0);
     }
 }

@@ -29,6 +29,8 @@ pub struct Order {
     places: Vec<usize>,
     /// For each variable whether its literal was the negated one when it was last set.
     negated: Vec<bool>,
+    /// For each level above 0 how many literals were true when it was decided.
+    starts: Vec<usize>,
     /// For each variable the last conflict that raised its score.
     stamps: Vec<u64>,
     /// What a conflict adds to a score.
@@ -68,6 +70,7 @@ impl Order {
         }
         let scores = Vec::from_elem(alloc, 0, count)?;
         let negated = Vec::from_elem(alloc, true, count)?;
+        let starts = Vec::with_capacity(alloc, count)?;
         let stamps = Vec::from_elem(alloc, 0, count)?;
         Ok(Order {
             scores,
@@ -75,6 +78,7 @@ impl Order {
             count,
             places,
             negated,
+            starts,
             stamps,
             step: FIRST_STEP,
             conflict: 1,
@@ -200,6 +204,29 @@ impl Order {
             self.negated[at] = lit.0 % 2 == 1;
         }
         self.insert(lit.0 / 2);
+    }
+
+    /// A level is decided where so many literals are true. There is room for as many levels as there are variables.
+    pub fn begin_level(&mut self, literals: usize)
+        ensures { self.new.count ≡ self.old.count }
+    {
+        match self.starts.push(literals) {
+            Ok(()) => {}
+            Err(_) => {}
+        }
+    }
+
+    /// Forgets the levels above this one, and answers how many literals are true up to it, where these are all.
+    pub fn end_levels(&mut self, level: u32, literals: usize) -> usize
+        ensures { self.new.count ≡ self.old.count }
+    {
+        let at = level as usize;
+        if at >= self.starts.len() {
+            return literals;
+        }
+        let start = self.starts[at];
+        self.starts.truncate(at);
+        start
     }
 
     /// The literal of a variable with the sign that it had last; the negated one at first.

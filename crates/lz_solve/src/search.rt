@@ -9,7 +9,7 @@ ghost use Rattle.lz_solve.specs.Search.{AreAssigned, IsSearch, IsLearntInto};
 use crate::choice::{choose, end_conflict, go_back, raise_hints};
 use crate::counts::Counts;
 use crate::order::Order;
-use lz_analyze::learn;
+use lz_analyze::{Scratch, learn_with};
 use lz_base::{Memory, Sequence};
 use lz_cnf::{Assignment, Cnf};
 use lz_log::{Log, LogStep};
@@ -62,18 +62,17 @@ fn values_of(alloc: Global, trail: &Trail, variables: u32) -> Result<Assignment,
 fn learn_from(
     alloc: Global,
     order: &mut Order,
+    scratch: &mut Scratch,
     trail: &mut Trail,
     log: &mut Log,
     clause: u32,
-    variables: u32,
     count: usize,
 ) -> Result<bool, Memory>
     requires conflict { IsFalseNamed trail.old clause }
-    requires variables { variables ≡ trail.old.variables }
     requires count { count ≡ length trail.old.clauses }
     ensures { IfOk result (λ refuted. IsLearntInto trail.old log.old trail.new log.new refuted) }
 {
-    let learnt = learn(alloc, trail, clause)?;
+    let learnt = learn_with(alloc, trail, scratch, clause)?;
     if learnt.clause.items().is_empty() {
         log.push(LogStep {
             clause: learnt.clause,
@@ -82,13 +81,13 @@ fn learn_from(
         return Ok(true);
     }
     raise_hints(order, trail, learnt.hints.items(), count);
-    go_back(order, trail, learnt.level, variables);
+    go_back(order, trail, learnt.level);
     trail.add(learnt.clause.items())?;
     log.push(LogStep {
         clause: learnt.clause,
         hints: learnt.hints,
     })?;
-    end_conflict(order, trail, variables);
+    end_conflict(order, trail);
     Ok(false)
 }
 
@@ -98,6 +97,7 @@ fn turn_at_conflict(
     formula: &Cnf,
     conflicts: u64,
     order: &mut Order,
+    scratch: &mut Scratch,
     trail: &mut Trail,
     log: &mut Log,
     clause: u32,
@@ -108,7 +108,7 @@ fn turn_at_conflict(
     ensures { IfOk result (λ turn. IsTurn formula.now conflicts trail.old log.old trail.new log.new turn) }
 {
     let count = formula.clauses.items().len() + log.items().len();
-    if learn_from(alloc, order, trail, log, clause, formula.variables, count)? {
+    if learn_from(alloc, order, scratch, trail, log, clause, count)? {
         return Ok(Turn::Refuted);
     }
     if log.items().len() as u64 == conflicts {
@@ -133,6 +133,7 @@ fn turn_at_quiet(
 {
     match choose(order, trail, formula.variables) {
         Some(variable) => {
+            order.begin_level(trail.order().len());
             trail.decide(order.literal_of(variable));
             counts.decided();
             Ok(Turn::Next)
@@ -150,6 +151,7 @@ fn take_turn(
     formula: &Cnf,
     conflicts: u64,
     order: &mut Order,
+    scratch: &mut Scratch,
     trail: &mut Trail,
     log: &mut Log,
     counts: &mut Counts,
@@ -164,7 +166,9 @@ fn take_turn(
     match propagated {
         Propagated::Conflict { clause } => {
             counts.ran_into_conflict();
-            turn_at_conflict(alloc, formula, conflicts, order, trail, log, clause)
+            turn_at_conflict(
+                alloc, formula, conflicts, order, scratch, trail, log, clause,
+            )
         }
         Propagated::Quiet => turn_at_quiet(alloc, formula, conflicts, order, trail, log, counts),
     }
@@ -198,10 +202,18 @@ pub fn solve_counted(
 {
     let mut trail = Trail::new(alloc, formula)?;
     let mut order = Order::new(alloc, formula.variables)?;
+    let mut scratch = Scratch::new(alloc);
     let mut log = Sequence::new(alloc);
     loop {
         let turn = take_turn(
-            alloc, formula, conflicts, &mut order, &mut trail, &mut log, counts,
+            alloc,
+            formula,
+            conflicts,
+            &mut order,
+            &mut scratch,
+            &mut trail,
+            &mut log,
+            counts,
         )?;
         match turn {
             Turn::Next => {}
