@@ -4,3 +4,5 @@ pub mod NamesLemmas
 pub mod ToThreadsLemmas
 pub mod PartsLemmas
 pub mod ThereLemmas
+pub mod BackLemmas
+pub mod ToSlotsLemmas

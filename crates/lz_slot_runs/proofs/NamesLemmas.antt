@@ -24,7 +24,7 @@ pub act_goes : (s : State) (t : ℕ) (a : Action) (s2 : State) → act s t a ≡
 act_goes s t a s2 e = free_goes (is_halted s t || (is_shared a && held_by_another s.holder t)) (act_free s t a) s2 e
 
 -- who is made has a number below theirs
-made_below : (s : State) (d : ℕ) → is_made s d ≡ true → d < length s.threads
+pub made_below : (s : State) (d : ℕ) → is_made s d ≡ true → d < length s.threads
 made_below s d h = grind (arith, h)
 
 -- who is joined is made

@@ -33,7 +33,7 @@ MainCreates [] = Unit
 MainCreates (e ∷ rest) = (e.thread ≢ 0 → started_by e.action ≡ None) × MainCreates rest
 
 -- a creation that goes has the next number
-next_made : (s : State) (t : ℕ) (a : Action) (start : actions.Start) → started_by a ≡ Some start → act s t a ≢ blocked → start.thread ≡ length s.threads
+pub next_made : (s : State) (t : ℕ) (a : Action) (start : actions.Start) → started_by a ≡ Some start → act s t a ≢ blocked → start.thread ≡ length s.threads
 next_made s t Loc start is goes = absurd cc
 next_made s t (Input v) start is goes = absurd cc
 next_made s t (Check v kind) start is goes = absurd cc
@@ -150,7 +150,8 @@ index_rises top low (k ∷ ks) r zero h lt below = absurd (let z : ⊥ = omega (
 index_rises top low (k ∷ ks) zero (suc q) h lt below = (within top k ks q h.2 (omega (arith, below))).0
 index_rises top low (k ∷ ks) (suc r) (suc q) h lt below = index_rises top k ks r q h.2 (omega (arith, lt)) (omega (arith, below))
 
-slot_rises : (top : ℕ) (made : List ℕ) (r q : ℕ) → RisesTo top 0 made → r < q → q < suc (length made) → slot_of made r < slot_of made q
+-- slots are in the order of their threads
+pub slot_rises : (top : ℕ) (made : List ℕ) (r q : ℕ) → RisesTo top 0 made → r < q → q < suc (length made) → slot_of made r < slot_of made q
 slot_rises top made r zero h lt below = absurd (let z : ⊥ = omega (arith, lt) in z)
 slot_rises top made zero (suc q) h lt below = (within top 0 made q h (omega (arith, below))).0
 slot_rises top made (suc r) (suc q) h lt below = index_rises top 0 made r q h (omega (arith, lt)) (omega (arith, below))
