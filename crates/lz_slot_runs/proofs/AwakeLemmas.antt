@@ -2,10 +2,10 @@
 use Rattle.std.proofs.Common.{◌≡◌, ℕ, zero, suc, ◌+◌, ◌≤◌, ◌<◌, Bool, true, false, not, ◌&&◌, cond, List, [], ◌∷◌, ◌++◌, length, nat_lt, eqb, refl, sym, ◌∙◌, ap, subst, arith}
 use Rattle.std.proofs.lemmas.Bool.{eqb-true, eqb-false, eq-eqb, ne_eqb}
 use Rattle.std.proofs.lemmas.List.{length-append}
-use Rattle.lz_sync.specs.Slots.{place_in, thread_of, slot_of, RisesTo}
-use Rattle.lz_sync.proofs.SlotsLemmas.{place_most, found, slot_thread}
-use Rattle.lz_interleave.specs.Deeds.{Start, no_start, starts, begins}
-use Rattle.lz_slot_runs.specs.SlotRuns.{is_awake, last_of, grown_by, may_start}
+use Rattle.lz_sync.specs.Slots.{place_in, thread_of, RisesTo}
+use Rattle.lz_sync.proofs.SlotsLemmas.{place_most}
+use Rattle.lz_interleave.specs.Deeds.{starts}
+use Rattle.lz_slot_runs.specs.SlotRuns.{is_awake, last_of, may_start}
 
 -- a slot keeps its place in a list with one more at the end
 pub place_kept : (made : List ℕ) (k u : ℕ) → place_in made u < length made → place_in (made ++ k ∷ []) u ≡ place_in made u

@@ -1,19 +1,17 @@
 -- A run of the process that breaks is a run of slots that breaks alike, in as many rounds.
-use Rattle.std.proofs.Common.{◌≡◌, ◌≢◌, ℕ, zero, suc, ◌+◌, ◌-◌, ◌≤◌, ◌<◌, ◌⊎◌, inl, inr, Bool, true, false, not, ◌&&◌, ◌||◌, cond, List, [], ◌∷◌, ◌++◌, length, map, nat_lt, eqb, refl, sym, ◌∙◌, ap, subst, arith, Option, Some, None}
-use Rattle.std.specs.Prelude.{option_map, slice_index}
-use Rattle.std.proofs.lemmas.Bool.{eqb-true, eqb-false, eq-eqb, ne_eqb}
-use Rattle.lz_base.specs.declared.word.BreakKind.{BreakKind}
+use Rattle.std.proofs.Common.{◌≡◌, ◌≢◌, ℕ, zero, suc, ◌≤◌, ◌<◌, ◌⊎◌, inl, inr, Bool, true, false, not, ◌&&◌, ◌||◌, cond, List, [], ◌∷◌, ◌++◌, length, nat_lt, eqb, refl, sym, ◌∙◌, ap, arith, Some, None}
+use Rattle.std.specs.Prelude.{slice_index}
+use Rattle.std.proofs.lemmas.Bool.{ne_eqb}
 use Rattle.lz_base.specs.declared.word.BreakKind.TheVariants as kinds
 use Rattle.lz_model.specs.declared.actions.Action.{Action}
 use Rattle.lz_model.specs.declared.actions.Action.TheVariants.{Loc, Input, Check, Assume, Rd, Wr, Reset, Lock, Unlock, Park, Wake, Signal, Broadcast, Create, Join, HoldOn, HoldOff, End}
-use Rattle.lz_model.specs.declared.actions.Event.{Event}
 use Rattle.lz_model.specs.Actions.{Act, act_of, event_of, started_by, is_shared}
 use Rattle.lz_model.specs.Actions as actions
-use Rattle.lz_model.specs.Store.{State, Acted, went, blocked, broke, act, act_free, is_halted, held_by_another, is_made, thread_at, waits_on, with_thread, awake, goes_where, joins}
+use Rattle.lz_model.specs.Store.{State, Acted, blocked, broke, act, is_halted, held_by_another, is_made, thread_at, waits_on, with_thread, awake, goes_where, joins}
 use Rattle.lz_sync.specs.Slots.{place_in, thread_of, slot_of, RisesTo}
-use Rattle.lz_sync.proofs.SlotsLemmas.{thread_slot, slot_thread, within, place_most, found}
+use Rattle.lz_sync.proofs.SlotsLemmas.{thread_slot, within}
 use Rattle.lz_slot_runs.specs.SlotRuns.{is_awake, last_of, with_threads}
-use Rattle.lz_slot_runs.proofs.AwakeLemmas.{awake_is, is_awake_at, asleep_is}
+use Rattle.lz_slot_runs.proofs.AwakeLemmas.{asleep_is}
 use Rattle.lz_slot_runs.proofs.NamesLemmas.{made_below}
 
 -- ---- lists that rise
@@ -101,7 +99,7 @@ back_unmade top made rest (suc q) r lt = by (nat_lt q (length (made ++ rest))) r
     by false e = inl (ap (thread_of made) (past_item (made ++ rest) q (grind (arith, e))))
 
 -- who is woken is made, of a signal that is not blocked
-woken_is_made : (s : State) (t c w : ℕ) → act s t (Signal c (Some w)) ≢ blocked → w < length s.threads
+pub woken_is_made : (s : State) (t c w : ℕ) → act s t (Signal c (Some w)) ≢ blocked → w < length s.threads
 woken_is_made s t c w h = by (is_halted s t || (is_shared (Signal c (Some w)) && held_by_another s.holder t)) (is_made s w) refl (waits_on c (thread_at s w)) h
   where
     by : (x m : Bool) → is_made s w ≡ m → (q : Bool) → cond x blocked (goes_where (m && q) (with_thread s w (awake (thread_at s w)))) ≢ blocked → w < length s.threads

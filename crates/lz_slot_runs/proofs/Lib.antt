@@ -6,3 +6,4 @@ pub mod PartsLemmas
 pub mod ThereLemmas
 pub mod BackLemmas
 pub mod ToSlotsLemmas
+pub mod SlotPartsLemmas

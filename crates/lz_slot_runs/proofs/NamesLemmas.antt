@@ -1,14 +1,13 @@
 -- Which threads an action that goes names, and two names that agree on them.
-use Rattle.std.proofs.Common.{◌≡◌, ◌≢◌, ℕ, zero, suc, ◌+◌, ◌<◌, Bool, true, false, not, ◌&&◌, ◌||◌, cond, List, [], ◌∷◌, ◌++◌, length, nat_lt, eqb, refl, sym, ◌∙◌, ap, subst, arith, Option, Some, None}
+use Rattle.std.proofs.Common.{◌≡◌, ℕ, suc, ◌+◌, ◌<◌, Bool, true, false, not, ◌&&◌, ◌||◌, cond, [], ◌∷◌, ◌++◌, length, eqb, refl, sym, ◌∙◌, ap, arith, Some, None}
 use Rattle.std.specs.Prelude.{option_map}
-use Rattle.std.proofs.lemmas.Bool.{eqb-true}
 use Rattle.lz_base.specs.declared.word.BreakKind.{BreakKind}
 use Rattle.lz_base.specs.declared.word.BreakKind.TheVariants as kinds
 use Rattle.lz_model.specs.declared.actions.Action.{Action}
 use Rattle.lz_model.specs.declared.actions.Action.TheVariants.{Loc, Input, Check, Assume, Rd, Wr, Reset, Lock, Unlock, Park, Wake, Signal, Broadcast, Create, Join, HoldOn, HoldOff, End}
 use Rattle.lz_model.specs.Actions.{Act, started_by, is_shared}
 use Rattle.lz_model.specs.Actions as actions
-use Rattle.lz_model.specs.Store.{State, Acted, went, blocked, broke, act, act_free, is_halted, held_by_another, is_made, thread_at, waits_on, with_thread, awake, goes_where, signals, joins}
+use Rattle.lz_model.specs.Store.{State, Acted, went, blocked, broke, act, act_free, is_halted, held_by_another, is_made, thread_at, waits_on, with_thread, awake, goes_where}
 use Rattle.std.proofs.lemmas.List.{length-append}
 use Rattle.lz_model.specs.Store.{fresh}
 use Rattle.lz_model.proofs.RunFrontsLemmas.{Grows, as_many, one_more, grows, goes_is}

@@ -1,21 +1,18 @@
 -- What each thread does in the run by threads is what its slot does in the run by slots.
-use Rattle.std.proofs.Common.{◌≡◌, ◌≢◌, ℕ, zero, suc, ◌+◌, ◌≤◌, ◌<◌, Bool, true, false, not, ◌&&◌, cond, List, [], ◌∷◌, ◌++◌, length, map, nat_lt, eqb, refl, sym, ◌∙◌, ap, subst, arith, Option, Some, None}
-use Rattle.std.specs.Prelude.{option_map, slice_index}
-use Rattle.std.proofs.lemmas.Bool.{eqb-true, eqb-false, ne_eqb}
-use Rattle.lz_base.specs.declared.word.BreakKind.{BreakKind}
+use Rattle.std.proofs.Common.{◌≡◌, ℕ, suc, ◌<◌, Bool, true, false, cond, List, [], ◌∷◌, length, eqb, refl, sym, ◌∙◌, ap, subst, arith, Option, Some, None}
+use Rattle.std.proofs.lemmas.Bool.{eqb-false, ne_eqb}
 use Rattle.lz_model.specs.declared.actions.Action.{Action}
 use Rattle.lz_model.specs.declared.actions.Action.TheVariants.{Loc, Input, Check, Assume, Rd, Wr, Reset, Lock, Unlock, Park, Wake, Signal, Broadcast, Create, Join, HoldOn, HoldOff, End}
-use Rattle.lz_model.specs.declared.actions.Event.{Event}
 use Rattle.lz_model.specs.Actions.{Act, act_of, event_of, started_by}
 use Rattle.lz_model.specs.Actions as actions
 use Rattle.lz_model.specs.Interleavings as model
-use Rattle.lz_sync.specs.Slots.{place_in, thread_of, slot_of, RisesTo}
+use Rattle.lz_sync.specs.Slots.{thread_of, slot_of, RisesTo}
 use Rattle.lz_sync.proofs.SlotsLemmas.{same_test, slot_thread}
 use Rattle.lz_interleave.specs.Deeds.{Start, no_start, starts, begins, argument_of, chosen, part, argument}
 use Rattle.lz_interleave.specs.Deeds as deeds
-use Rattle.lz_slot_runs.specs.SlotRuns.{is_awake, last_of, start_in, start_as, grown_by, may_start, with_threads, act_with, acts_with, made_in, events_with, routines_of, routine_before, IsNamedWell, AreNamedWell}
-use Rattle.lz_slot_runs.proofs.AwakeLemmas.{awake_is, is_awake_at, new_start, rises_on, awake_grown}
-use Rattle.lz_slot_runs.proofs.NamesLemmas.{start_with, started_with}
+use Rattle.lz_slot_runs.specs.SlotRuns.{is_awake, start_in, start_as, grown_by, may_start, with_threads, act_with, acts_with, made_in, events_with, routines_of, routine_before, IsNamedWell, AreNamedWell}
+use Rattle.lz_slot_runs.proofs.AwakeLemmas.{awake_is, new_start, rises_on, awake_grown}
+use Rattle.lz_slot_runs.proofs.NamesLemmas.{started_with}
 use Rattle.lz_slot_runs.proofs.ToThreadsLemmas.{AllAwake, made_kept}
 
 -- ---- of every event

@@ -1,10 +1,9 @@
 -- What slots do meets the law on stores.
 use Rattle.std.proofs.Common.{◌≡◌, ℕ, Bool, true, false, not, ◌&&◌, cond, List, [], eqb, refl, sym, ◌∙◌, ap, subst}
 use Rattle.std.proofs.lemmas.Bool.{eqb-true}
-use Rattle.std.specs.Prelude.{if◌then◌else◌}
 use Rattle.lz_model.specs.Actions.{Act}
 use Rattle.lz_model.specs.Store.{State, Acted, went, blocked, broke, act}
-use Rattle.lz_interleave.specs.Deeds.{Done, gone, waits, fails, Start, no_start, starts, begins}
+use Rattle.lz_interleave.specs.Deeds.{gone, waits, Start, no_start, starts, begins}
 use Rattle.lz_interleave.specs.StepLaw.{StoreLaw}
 use Rattle.lz_sync.specs.Slots.{thread_of}
 use Rattle.lz_slot_runs.specs.SlotRuns.{Slotted, is_awake, start_in, grown_by, may_start, done_as, where_, slot_act, slot_program, with_threads}

@@ -1,5 +1,5 @@
 -- A run of slots that breaks is a run of the process that breaks alike, in as many rounds.
-use Rattle.std.proofs.Common.{◌≡◌, ◌≢◌, ℕ, zero, suc, ◌+◌, ◌≤◌, ◌<◌, Bool, true, false, not, ◌&&◌, cond, List, [], ◌∷◌, ◌++◌, length, map, nat_lt, eqb, refl, sym, ◌∙◌, ap, subst, arith, Option, Some, None}
+use Rattle.std.proofs.Common.{◌≡◌, ◌≢◌, ℕ, zero, suc, ◌+◌, ◌≤◌, ◌<◌, Bool, true, false, not, cond, List, [], ◌∷◌, ◌++◌, length, map, nat_lt, eqb, refl, sym, ◌∙◌, ap, subst, arith, Option, Some, None}
 use Rattle.std.specs.Prelude.{option_map, slice_index}
 use Rattle.std.proofs.lemmas.Bool.{eqb-true, eqb-false, eq-eqb}
 use Rattle.lz_model.specs.declared.actions.Action.TheVariants.{Loc, Input, Check, Assume, Rd, Wr, Reset, Lock, Unlock, Park, Wake, Signal, Broadcast, Create, Join, HoldOn, HoldOff, End}
@@ -12,18 +12,18 @@ use Rattle.lz_model.specs.Actions as actions
 use Rattle.lz_model.specs.Store.{State, Acted, went, blocked, broke, act}
 use Rattle.lz_model.specs.Interleavings as model
 use Rattle.lz_model.specs.Interleavings.{Process, course, course_after, going, stuck, broken, MayDo, MayDoIn, IsRun}
-use Rattle.lz_model.specs.Programs.{CreatesFrom, numbered_after}
+use Rattle.lz_model.specs.Programs.{CreatesFrom}
 use Rattle.lz_model.specs.BrokenRuns.{IsBrokenRun, rounds_of_run}
-use Rattle.lz_model.proofs.OneRunLemmas.{made_is, goes_here}
-use Rattle.lz_sync.specs.Slots.{place_in, thread_of, slot_of, RisesTo}
+use Rattle.lz_model.proofs.OneRunLemmas.{made_is}
+use Rattle.lz_sync.specs.Slots.{thread_of, slot_of, RisesTo}
 use Rattle.lz_sync.proofs.SlotsLemmas.{thread_slot, slot_thread, within}
 use Rattle.lz_interleave.specs.Deeds.{Start, no_start, starts, begins, argument_of, chosen, part, argument, threads_of, ends_broken, ending, IsBrokenRunOf}
 use Rattle.lz_interleave.specs.Deeds as deeds
-use Rattle.lz_slot_runs.specs.SlotRuns.{is_awake, start_in, start_as, grown_by, may_start, slot_program, with_threads, act_with, acts_with, made_in, by_threads, events_with, IsNamedWell, AreNamedWell, GoesBySlots}
+use Rattle.lz_slot_runs.specs.SlotRuns.{is_awake, start_in, start_as, grown_by, may_start, slot_program, with_threads, made_in, by_threads, events_with, GoesBySlots}
 use Rattle.lz_slot_runs.proofs.AwakeLemmas.{awake_is, is_awake_at, new_start, awake_grown, none_awake}
 use Rattle.lz_slot_runs.proofs.NamesLemmas.{start_with, started_with, threads_grow, threads_stay, breaks_starts_none}
-use Rattle.lz_slot_runs.proofs.ToThreadsLemmas.{AllAwake, Told, told}
-use Rattle.lz_slot_runs.proofs.PartsLemmas.{AllNamed, AllMade, AllStarted, OnlyMain, parts_named, parts_alone, all_made, made_rises, part_with, past_part, past_start, all_started, same_slots, named_start}
+use Rattle.lz_slot_runs.proofs.ToThreadsLemmas.{AllAwake, told}
+use Rattle.lz_slot_runs.proofs.PartsLemmas.{AllNamed, AllMade, OnlyMain, parts_named, parts_alone, all_made, made_rises, part_with, past_part, past_start, all_started, same_slots, named_start}
 
 -- ---- the numbers of the threads that main creates
 

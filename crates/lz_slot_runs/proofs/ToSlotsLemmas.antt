@@ -1,27 +1,23 @@
 -- A run of the process that breaks is a run of slots that breaks alike, in as many rounds.
-use Rattle.std.proofs.Common.{◌≡◌, ◌≢◌, ℕ, zero, suc, ◌+◌, ◌≤◌, ◌<◌, ◌⊎◌, inl, inr, Bool, true, false, not, ◌&&◌, cond, List, [], ◌∷◌, ◌++◌, length, map, nat_lt, eqb, refl, sym, ◌∙◌, ap, subst, arith, Option, Some, None}
+use Rattle.std.proofs.Common.{◌≡◌, ◌≢◌, ℕ, suc, ◌≤◌, ◌<◌, ◌⊎◌, inl, inr, Bool, true, false, not, ◌&&◌, cond, List, [], ◌∷◌, ◌++◌, length, map, nat_lt, eqb, refl, sym, ◌∙◌, ap, subst, arith, Option, Some, None}
 use Rattle.std.specs.Prelude.{option_map, slice_index}
-use Rattle.std.proofs.lemmas.Bool.{eqb-true, eqb-false, eq-eqb, ne_eqb}
-use Rattle.std.proofs.lemmas.List.{append_assoc, append-nil}
-use Rattle.lz_base.specs.Descents.{descents}
+use Rattle.std.proofs.lemmas.Bool.{eqb-false}
+use Rattle.std.proofs.lemmas.List.{append_assoc}
 use Rattle.lz_base.specs.declared.word.BreakKind.{BreakKind}
-use Rattle.lz_model.specs.declared.actions.Action.{Action}
 use Rattle.lz_model.specs.declared.actions.Event.{Event}
 use Rattle.lz_model.specs.Actions.{Act, act_of, event_of, started_by}
 use Rattle.lz_model.specs.Actions as actions
 use Rattle.lz_model.specs.Store.{State, Acted, went, blocked, broke, act}
 use Rattle.lz_model.specs.Interleavings as model
 use Rattle.lz_model.specs.Interleavings.{Process, course, course_after, going, stuck, broken, MayDo, MayDoIn, IsRun}
-use Rattle.lz_model.proofs.OneRunLemmas.{is_made_here, goes_here}
-use Rattle.lz_sync.specs.Slots.{place_in, thread_of, slot_of, RisesTo}
-use Rattle.lz_sync.proofs.SlotsLemmas.{thread_slot, slot_thread, within}
-use Rattle.lz_interleave.specs.Deeds.{Done, gone, waits, fails, Start, no_start, starts, begins, argument_of, chosen, part, argument, threads_of, End, ends_broken, end_behind, ending, IsBrokenRunOf}
-use Rattle.lz_interleave.specs.Deeds as deeds
-use Rattle.lz_slot_runs.specs.SlotRuns.{Slotted, is_awake, last_of, start_in, start_as, grown_by, may_start, done_as, where_, slot_act, slot_program, with_threads, act_with, acts_with, by_slots, routines_of, routine_before, IsNamedWell, AreNamedWell, GoesBySlots}
-use Rattle.lz_slot_runs.proofs.AwakeLemmas.{awake_is, is_awake_at, asleep_is, none_awake, length_more}
-use Rattle.lz_slot_runs.proofs.NamesLemmas.{start_with, started_with, threads_grow, threads_stay, breaks_starts_none}
-use Rattle.lz_slot_runs.proofs.ThereLemmas.{MainCreates, next_made, slot_rises}
-use Rattle.lz_slot_runs.proofs.BackLemmas.{front_rises, next_rises, above_asleep, slot_now, there_and_back, back_unmade, names_back, named_twice, next_item}
+use Rattle.lz_model.proofs.OneRunLemmas.{is_made_here}
+use Rattle.lz_sync.specs.Slots.{thread_of, slot_of, RisesTo}
+use Rattle.lz_interleave.specs.Deeds.{Start, ends_broken, ending}
+use Rattle.lz_slot_runs.specs.SlotRuns.{is_awake, last_of, start_as, grown_by, may_start, slot_program, with_threads, by_slots, routines_of, routine_before}
+use Rattle.lz_slot_runs.proofs.AwakeLemmas.{is_awake_at, asleep_is, length_more}
+use Rattle.lz_slot_runs.proofs.NamesLemmas.{start_with, started_with, threads_grow, threads_stay}
+use Rattle.lz_slot_runs.proofs.ThereLemmas.{MainCreates, next_made}
+use Rattle.lz_slot_runs.proofs.BackLemmas.{front_rises, next_rises, above_asleep, there_and_back, back_unmade, names_back, named_twice, next_item}
 
 -- the slots that thread 0 makes by these events
 abbrev pub slots_of : List Event → List ℕ
@@ -34,7 +30,7 @@ pub record At (top : ℕ) (last made : List ℕ) (run : List Event) (s : State) 
   pub size : length s.threads ≡ suc (length made)
 
 -- the slot that an event makes, before those that the rest makes
-slots_first : (e : Event) (rest : List Event) → (e.thread ≢ 0 → started_by e.action ≡ None) → slots_of (e ∷ rest) ≡ map suc (routine_before (started_by e.action) (routines_of (model.part 0 rest)))
+pub slots_first : (e : Event) (rest : List Event) → (e.thread ≢ 0 → started_by e.action ≡ None) → slots_of (e ∷ rest) ≡ map suc (routine_before (started_by e.action) (routines_of (model.part 0 rest)))
 slots_first e rest main = by (eqb e.thread 0) refl
   where
     by : (b : Bool) → eqb e.thread 0 ≡ b → map suc (routines_of (cond b (act_of e ∷ model.part 0 rest) (model.part 0 rest))) ≡ map suc (routine_before (started_by e.action) (routines_of (model.part 0 rest)))
@@ -42,7 +38,7 @@ slots_first e rest main = by (eqb e.thread 0) refl
     by false f = rw (main (λ z. eqb-false e.thread 0 f z)) refl
 
 -- the start of an event by slots
-abbrev slotted_start : (ℕ → ℕ) → Option actions.Start → Start
+abbrev pub slotted_start : (ℕ → ℕ) → Option actions.Start → Start
 slotted_start f start = start_as (option_map (start_with f) start)
 
 -- what is known of an event that is not blocked
@@ -54,15 +50,15 @@ record Now (top : ℕ) (last made : List ℕ) (e : Event) (rest : List Event) (s
   later : last ≡ grown_by (slotted_start (slot_of last) (started_by e.action)) made ++ slots_of rest
 
 -- an event that creates makes the next slot
-record Made (top : ℕ) (last made : List ℕ) (start : actions.Start) (rest : List Event) : Type 0 where
-  slot : slot_of last start.thread ≡ suc start.routine
-  least : last_of 0 made < suc start.routine
-  most : suc start.routine < top
-  asleep : is_awake made (suc start.routine) ≡ false
-  back : thread_of made (slot_of last start.thread) ≡ start.thread
-  after : last ≡ (made ++ slot_of last start.thread ∷ []) ++ slots_of rest
+pub record Made (top : ℕ) (last made : List ℕ) (start : actions.Start) (rest : List Event) : Type 0 where
+  pub slot : slot_of last start.thread ≡ suc start.routine
+  pub least : last_of 0 made < suc start.routine
+  pub most : suc start.routine < top
+  pub asleep : is_awake made (suc start.routine) ≡ false
+  pub back : thread_of made (slot_of last start.thread) ≡ start.thread
+  pub after : last ≡ (made ++ slot_of last start.thread ∷ []) ++ slots_of rest
 
-makes_next : (top : ℕ) (last made : List ℕ) (start : actions.Start) (rest : List Event) → last ≡ made ++ suc start.routine ∷ slots_of rest → RisesTo top 0 last → start.thread ≡ suc (length made) → Made top last made start rest
+pub makes_next : (top : ℕ) (last made : List ℕ) (start : actions.Start) (rest : List Event) → last ≡ made ++ suc start.routine ∷ slots_of rest → RisesTo top 0 last → start.thread ≡ suc (length made) → Made top last made start rest
 makes_next top last made start rest is rises next =
     let r : RisesTo top 0 (made ++ suc start.routine ∷ slots_of rest) = subst (RisesTo top 0) is rises in
     let bounds = next_rises top 0 (suc start.routine) made (slots_of rest) r in
@@ -130,6 +126,16 @@ now top last made e rest s at goes main =
             by_ true e = refl
             by_ false e = absurd (let n : a < b → ⊥ = grind (arith, e) in n lt)
 
+-- what holds after an event that goes
+pub at_after : (top : ℕ) (last made : List ℕ) (e : Event) (rest : List Event) (s s2 : State) → At top last made (e ∷ rest) s → act s e.thread e.action ≡ went s2 → (e.thread ≢ 0 → started_by e.action ≡ None)
+    → At top last (grown_by (slotted_start (slot_of last) (started_by e.action)) made) rest s2
+at_after top last made e rest s s2 at is main =
+    at_next (started_by e.action) refl (now top last made e rest s at (λ w. let z : went s2 ≡ blocked = sym is ∙ w in cc) main).later
+  where
+    at_next : (start : Option actions.Start) → started_by e.action ≡ start → last ≡ grown_by (slotted_start (slot_of last) (started_by e.action)) made ++ slots_of rest → At top last (grown_by (slotted_start (slot_of last) (started_by e.action)) made) rest s2
+    at_next None f more = record { is = more; rises = at.rises; size = rw f (threads_stay s e.thread e.action s2 is f ∙ at.size) }
+    at_next (Some start) f more = record { is = more; rises = at.rises; size = rw f (threads_grow s e.thread e.action s2 start is f ∙ ap suc (at.size ∙ sym (length_more made (slot_of last start.thread)))) }
+
 -- ---- the run by slots breaks
 
 slots_event : (top : ℕ) (begins_ : State) (does : ℕ → ℕ → List Act → Type 0) (kind : BreakKind) (line : ℕ) (last made : List ℕ) (e : Event) (rest : List Event) (s : State) → At top last made (e ∷ rest) s
@@ -139,13 +145,8 @@ slots_event : (top : ℕ) (begins_ : State) (does : ℕ → ℕ → List Act →
 unfolding ending
 slots_event top begins_ does kind line last made e rest s at main (went s2) is ends later =
     let known = now top last made e rest s at (λ w. let z : went s2 ≡ blocked = sym is ∙ w in cc) main in
-    let grown = at_next (started_by e.action) refl known.later in
-    let next = later (grown_by (slotted_start (slot_of last) (started_by e.action)) made) s2 grown ends in
+    let next = later (grown_by (slotted_start (slot_of last) (started_by e.action)) made) s2 (at_after top last made e rest s s2 at is main) ends in
     rw (started_with (slot_of last) e.action, known.awake, known.may, known.thread, known.same, is) next
-  where
-    at_next : (start : Option actions.Start) → started_by e.action ≡ start → last ≡ grown_by (slotted_start (slot_of last) (started_by e.action)) made ++ slots_of rest → At top last (grown_by (slotted_start (slot_of last) (started_by e.action)) made) rest s2
-    at_next None f more = record { is = more; rises = at.rises; size = rw f (threads_stay s e.thread e.action s2 is f ∙ at.size) }
-    at_next (Some start) f more = record { is = more; rises = at.rises; size = rw f (threads_grow s e.thread e.action s2 start is f ∙ ap suc (at.size ∙ sym (length_more made (slot_of last start.thread)))) }
 slots_event top begins_ does kind line last made e rest s at main blocked is ends later = absurd cc
 slots_event top begins_ does kind line last made e [] s at main (broke k) is ends later =
     let known = now top last made e [] s at (λ w. let z : broke k ≡ blocked = sym is ∙ w in cc) main in

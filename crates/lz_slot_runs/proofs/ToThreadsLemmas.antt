@@ -1,20 +1,17 @@
 -- A run of slots that breaks is a run of threads that breaks alike, by the names of the slots that are made in the end.
-use Rattle.std.proofs.Common.{◌≡◌, ◌≢◌, ℕ, zero, suc, ◌+◌, ◌<◌, Bool, true, false, not, ◌&&◌, cond, List, [], ◌∷◌, ◌++◌, length, map, nat_lt, eqb, refl, sym, ◌∙◌, ap, subst, arith, Option, Some, None}
+use Rattle.std.proofs.Common.{◌≡◌, ℕ, suc, Bool, true, false, ◌&&◌, List, [], ◌∷◌, ◌++◌, length, refl, sym, ◌∙◌, ap, subst, arith, Option, Some, None}
 use Rattle.std.specs.Prelude.{option_map}
 use Rattle.lz_base.specs.declared.word.BreakKind.{BreakKind}
 use Rattle.lz_model.specs.declared.actions.Action.{Action}
-use Rattle.lz_model.specs.declared.actions.Event.{Event}
 use Rattle.lz_model.specs.Actions.{Act, event_of, started_by}
 use Rattle.lz_model.specs.Actions as actions
 use Rattle.lz_model.specs.Store.{State, Acted, went, blocked, broke, act}
-use Rattle.lz_model.specs.Interleavings.{course, course_after, broken}
-use Rattle.lz_model.proofs.RunFrontsLemmas.{Grows, as_many, one_more, grows}
-use Rattle.lz_sync.specs.Slots.{thread_of, slot_of, RisesTo}
+use Rattle.lz_model.specs.Interleavings.{course, broken}
+use Rattle.lz_sync.specs.Slots.{thread_of}
 use Rattle.lz_interleave.specs.Deeds.{Done, gone, waits, fails, Start, no_start, starts, End, ends_broken, end_behind, ending}
 use Rattle.lz_interleave.specs.Deeds as deeds
-use Rattle.lz_slot_runs.specs.SlotRuns.{Slotted, is_awake, start_in, start_as, grown_by, may_start, done_as, where_, slot_act, slot_program, with_threads, act_with, made_in, by_threads, events_with}
-use Rattle.lz_slot_runs.proofs.AwakeLemmas.{awake_is, is_awake_at, asleep_is, thread_kept, thread_new, awake_kept, new_start, length_more}
-use Rattle.lz_slot_runs.proofs.StoreLawLemmas.{both}
+use Rattle.lz_slot_runs.specs.SlotRuns.{Slotted, is_awake, start_in, start_as, grown_by, may_start, done_as, where_, slot_program, with_threads, act_with, made_in, by_threads, events_with}
+use Rattle.lz_slot_runs.proofs.AwakeLemmas.{is_awake_at, asleep_is, thread_kept, thread_new, awake_kept, new_start, length_more}
 use Rattle.lz_slot_runs.proofs.NamesLemmas.{names_agree, start_with, started_with, breaks_starts_none, threads_grow, threads_stay}
 
 -- each event is of a slot that is made, and starts what it may
@@ -82,7 +79,7 @@ told_by : (made : List ℕ) (e : deeds.Event Act) (rest : List (deeds.Event Act)
     → length s.threads ≡ suc (length made)
     → end_behind (where_ (b && c) (done_as e.deed.line (grown_by (start_in e.deed) made) r)) rest (ending (slot_program begins does) rest) ≡ ends_broken kind line
     → ((s2 : State) → length s2.threads ≡ suc (length (grown_by (start_in e.deed) made))
-        → ending (slot_program begins does) rest (record { state = s2; made = grown_by (start_in e.deed) made }) ≡ ends_broken kind line → Told (grown_by (start_in e.deed) made) rest s2 kind line)
+    → ending (slot_program begins does) rest (record { state = s2; made = grown_by (start_in e.deed) made }) ≡ ends_broken kind line → Told (grown_by (start_in e.deed) made) rest s2 kind line)
     → Told made (e ∷ rest) s kind line
 unfolding ending by_threads made_in
 told_by made e rest s kind line begins does true true (went s2) f g h size is later =
