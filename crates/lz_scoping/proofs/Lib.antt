@@ -11,3 +11,4 @@ mod StatementLemmas
 mod TwinsLemmas
 mod TypesLemmas
 mod WalkLemmas
+mod Witnesses
