@@ -1,5 +1,5 @@
 -- Verdicts and endings are lawful.
-use Rattle.std.proofs.Common.{◌≡◌, ℕ, ◌+◌, ◌*◌, ◌<◌, ◌≤◌, ◌^◌, List, [], ◌∷◌, length, Some, None, inl, inr, refl, sym, subst, arith}
+use Rattle.std.proofs.Common.{◌≡◌, ℕ, ◌+◌, ◌*◌, ◌<◌, ◌≤◌, ◌^◌, List, [], ◌∷◌, length, Some, None, inl, refl, sym, subst, arith}
 use Rattle.lz_base.specs.declared.word.BreakKind.{BreakKind}
 use Rattle.lz_tree.specs.declared.token.Tokens.{Tokens}
 use Rattle.lz_tree.specs.Tokens.{HasTokens}
@@ -26,9 +26,8 @@ use Rattle.lz_types.specs.Checking.{AreFaults, number_of}
 use Rattle.lz_tree.specs.ScopedTrees.{ScopedProgram}
 use Rattle.lz_tree.specs.Calls.{IsCallOrder}
 use Rattle.lz_cli.specs.declared.ending.Ending.{Ending}
-use Rattle.lz_cli.specs.declared.ending.Ending.TheVariants.{Successful, Failed, NotAToken, NotAProgram, Faulty, ManySlots, HighCost, Recheck, Replay, NotBuilt, FileTooLong, ScheduleTooLong, ProofTooLong, BadSchedule, ReadFault, OutOfMemory}
-use Rattle.lz_cli.specs.CommandLine.{IsProofName, IsCheckName, IsReplayName, IsNamed}
-use Rattle.lz_cli.specs.Limits.{Bounds, within, checking, schedule_limit}
+use Rattle.lz_cli.specs.declared.ending.Ending.TheVariants.{Successful, Failed, NotAToken, NotAProgram, Faulty, ManySlots, HighCost, Recheck, Replay, NotBuilt, FileTooLong, ScheduleTooLong, ProofTooLong, BadSchedule, ReadFault, Usage, OutOfMemory}
+use Rattle.lz_cli.specs.Limits.{within, checking, schedule_limit}
 use Rattle.lz_cli.specs.Admission.{IsFaulty, IsAccepted, IsAdmitted}
 use Rattle.lz_cli.specs.Admit.{IsWithin, Admits}
 use Rattle.lz_cli.specs.Source.{HasTree, HasNoTree}
@@ -134,14 +133,6 @@ pub is_replayed : {call : Call} {turns : ℕ} {bytes text : List ℕ} {steps : L
 is_replayed {call} {turns} {bytes} {text} {steps} {p} {answer} by_ reads meaning says =
     record { turns = turns; bytes = bytes; text = text; by = by_; steps = steps; read = reads; says = subst (λ (q : ScopedProgram). Says q turns steps answer) meaning says }
 
--- ---- names
-
-pub names_no_file : {words : List (List ℕ)} → ((turns : ℕ) (name : List ℕ) → IsCheckName words turns name → ⊥) → ((name : List ℕ) → IsProofName words name → ⊥)
-    → ((turns : ℕ) (schedule name : List ℕ) → IsReplayName words turns schedule name → ⊥) → (name : List ℕ) → IsNamed words name → ⊥
-names_no_file no_check no_proof no_run name (inl (inl named)) = no_check named.0 name named.1
-names_no_file no_check no_proof no_run name (inl (inr named)) = no_run named.0 named.1 name named.2
-names_no_file no_check no_proof no_run name (inr named) = no_proof name named
-
 -- ---- verdicts of a file
 
 pub verdict_lawful : {call : Call} {turns : ℕ} {bytes : List ℕ} (ending : Ending) → IsSource call turns bytes → IsVerdict (checking turns) bytes ending → IsLawful call ending
@@ -160,6 +151,7 @@ verdict_lawful {call} {turns} {bytes} ScheduleTooLong source v = absurd v
 verdict_lawful {call} {turns} {bytes} ProofTooLong source v = absurd v
 verdict_lawful {call} {turns} {bytes} (BadSchedule line) source v = absurd v
 verdict_lawful {call} {turns} {bytes} (ReadFault name) source v = absurd v
+verdict_lawful {call} {turns} {bytes} Usage source v = absurd v
 verdict_lawful {call} {turns} {bytes} OutOfMemory source v = tt
 
 pub is_accepted : {bytes : List ℕ} {tree : TranslationUnit} → HasTree bytes tree → AreFaults tree [] → IsAccepted bytes tree

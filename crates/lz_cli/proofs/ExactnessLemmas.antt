@@ -25,22 +25,23 @@ use Rattle.lz_replay.specs.declared.answer.Replayed.{Replayed}
 use Rattle.lz_replay.specs.declared.answer.Replayed.TheVariants.{Broke}
 use Rattle.lz_replay.specs.Replays.{Says}
 use Rattle.lz_cli.specs.declared.ending.Ending.{Ending}
-use Rattle.lz_cli.specs.declared.ending.Ending.TheVariants.{Successful, Failed, NotAToken, NotAProgram, Faulty, ManySlots, HighCost, Recheck, Replay, NotBuilt, FileTooLong, ScheduleTooLong, ProofTooLong, BadSchedule, ReadFault, OutOfMemory}
-use Rattle.lz_cli.specs.CommandLine.{IsFileName, IsProofName, IsSourceName, IsNamed}
+use Rattle.lz_cli.specs.declared.ending.Ending.TheVariants.{Successful, Failed, NotAToken, NotAProgram, Faulty, ManySlots, HighCost, Recheck, Replay, NotBuilt, FileTooLong, ScheduleTooLong, ProofTooLong, BadSchedule, ReadFault, Usage, OutOfMemory}
+use Rattle.lz_words.specs.CommandLine.{HasNoReading}
+use Rattle.lz_cli.specs.CommandLine.{IsUnbuilt, IsFileName, IsProofName, IsSourceName, IsNamed}
 use Rattle.lz_cli.specs.Recheck.{proof_limit, IsRechecked}
 use Rattle.lz_base.specs.Limits.{file_limit}
 use Rattle.lz_cli.specs.Limits.{Bounds, defaults, checking, replaying, cost_limit, schedule_limit}
 use Rattle.lz_cli.specs.Report.{report}
 use Rattle.lz_cli.specs.Source.{HasNoTokens, HasTree}
 use Rattle.lz_cli.specs.Admission.{IsFaulty, IsAccepted, HasManySlots, HasHighCost, IsAdmitted}
-use Rattle.lz_cli.specs.Ending.{Call, IsSource, IsRunSource, IsProofSource, IsVerdict, IsFailure, IsLawful, NamesNoFile}
+use Rattle.lz_cli.specs.Ending.{Call, IsSource, IsRunSource, IsProofSource, IsVerdict, IsFailure, IsLawful}
 use Rattle.lz_cli.specs.Exactness.{IsToldFile, IsToldCheck, IsToldRun, IsToldSource, IsToldReplay, IsToldProof, IsDecided, IsDecidedWithin, IsRefusal, IsEither, IsAnswer, IsRunAnswer}
 use Rattle.lz_cli.proofs.AdmissionLemmas.{same_accepted, no_fault_accepted, one_faulty, no_slots_accepted, no_cost_accepted, one_slots, one_cost, same_program, no_choice_chosen, one_choice}
 use Rattle.lz_cli.proofs.SourceLemmas.{OneTree, one_tokens, no_tokens, one_place, no_tree}
 use Rattle.lz_cli.proofs.ScheduleLemmas.{no_first_bad, one_first_bad}
 use Rattle.lz_cli.proofs.ReportLemmas.{report_read}
-use Rattle.lz_cli.proofs.NamesLemmas.{same_check, check_proof, same_run, check_run, proof_run, same_named}
-use Rattle.lz_cli.proofs.OriginLemmas.{unfit_verdict, admitted_fits, RunEnds, replayed, unreadable, longer, unread, Origin, decided, refused, ran, rechecked, too_long, proof_too_long, not_read, unnamed, out, origin}
+use Rattle.lz_cli.proofs.NamesLemmas.{same_check, check_proof, same_run, check_run, proof_run, same_named, no_reading_named, unbuilt_named}
+use Rattle.lz_cli.proofs.OriginLemmas.{unfit_verdict, admitted_fits, RunEnds, replayed, unreadable, longer, unread, Origin, decided, refused, ran, rechecked, too_long, proof_too_long, not_read, unread_words, unbuilt, out, origin}
 
 -- ---- what is told
 
@@ -116,7 +117,8 @@ check_verdict call turns content ending told short (too_long name named long e) 
 check_verdict call turns content ending told short (proof_too_long name named long e) = absurd (check_proof call.words turns told.name name told.named named)
 check_verdict call turns content ending told short (not_read name named cause e) =
     absurd (no_fault call told.name content name (inl (inl (turns, told.named))) told.tells told.calm named cause)
-check_verdict call turns content ending told short (unnamed none e) = absurd (none told.name (inl (inl (turns, told.named))))
+check_verdict call turns content ending told short (unread_words none e) = absurd (no_reading_named call.words none told.name (inl (inl (turns, told.named))))
+check_verdict call turns content ending told short (unbuilt none e) = absurd (unbuilt_named none told.name (inl (inl (turns, told.named))))
 check_verdict call turns content ending told short (out e) = at_memory (checking turns) content ending e
 
 -- the same of a program that is not admitted to be run
@@ -135,7 +137,8 @@ run_verdict call turns schedule content ending told short none (too_long name na
 run_verdict call turns schedule content ending told short none (proof_too_long name named long e) = absurd (proof_run call.words turns name schedule told.name named told.named)
 run_verdict call turns schedule content ending told short none (not_read name named cause e) =
     absurd (no_fault call told.name content name (inl (inr (turns, schedule, told.named))) told.tells told.calm named cause)
-run_verdict call turns schedule content ending told short none (unnamed nothing e) = absurd (nothing told.name (inl (inr (turns, schedule, told.named))))
+run_verdict call turns schedule content ending told short none (unread_words nothing e) = absurd (no_reading_named call.words nothing told.name (inl (inr (turns, schedule, told.named))))
+run_verdict call turns schedule content ending told short none (unbuilt nothing e) = absurd (unbuilt_named nothing told.name (inl (inr (turns, schedule, told.named))))
 run_verdict call turns schedule content ending told short none (out e) = at_memory (replaying turns) content ending e
 
 source_verdict : (call : Call) (bounds : Bounds) (content : List ℕ) (ending : Ending) → IsToldSource call bounds content → length content ≤ file_limit → (IsAdmitted bounds content → ⊥) → IsLawful call ending
@@ -148,7 +151,7 @@ source_verdict call bounds content ending (inr told) short none lawful =
 
 -- words that say no number of turns
 by_default : (call : Call) (content : List ℕ) → IsToldFile call content → IsToldCheck call 2 content
-by_default call content told = record { name = told.name; named = inl (told.named, refl); tells = told.tells; calm = told.calm }
+by_default call content told = record { name = told.name; named = told.named; tells = told.tells; calm = told.calm }
 
 pub default_source : (call : Call) (content : List ℕ) → IsToldFile call content → IsToldSource call defaults content
 default_source call content told = inl (2, by_default call content told, refl)
@@ -186,6 +189,7 @@ decided_by one in_rounds bounds bytes ScheduleTooLong a none v = v
 decided_by one in_rounds bounds bytes ProofTooLong a none v = v
 decided_by one in_rounds bounds bytes (BadSchedule line) a none v = v
 decided_by one in_rounds bounds bytes (ReadFault name) a none v = v
+decided_by one in_rounds bounds bytes Usage a none v = v
 decided_by one in_rounds bounds bytes OutOfMemory a none v = tt
 
 pub decided_within : OneTree → BrokenInRounds → (call : Call) (turns : ℕ) (content : List ℕ) (ending : Ending) → IsToldCheck call turns content → length content ≤ file_limit
@@ -215,6 +219,7 @@ not_built_by one bounds bytes line ScheduleTooLong a some v = absurd v
 not_built_by one bounds bytes line ProofTooLong a some v = absurd v
 not_built_by one bounds bytes line (BadSchedule l) a some v = absurd v
 not_built_by one bounds bytes line (ReadFault name) a some v = absurd v
+not_built_by one bounds bytes line Usage a some v = absurd v
 not_built_by one bounds bytes line OutOfMemory a some v = tt
 
 pub not_built_within : OneTree → (call : Call) (turns : ℕ) (content : List ℕ) (line : ℕ) (ending : Ending) → IsToldCheck call turns content → length content ≤ file_limit
@@ -243,6 +248,7 @@ faulty_by one bounds bytes line rule ScheduleTooLong f v = absurd v
 faulty_by one bounds bytes line rule ProofTooLong f v = absurd v
 faulty_by one bounds bytes line rule (BadSchedule line_) f v = absurd v
 faulty_by one bounds bytes line rule (ReadFault name) f v = absurd v
+faulty_by one bounds bytes line rule Usage f v = absurd v
 faulty_by one bounds bytes line rule OutOfMemory f v = tt
 
 pub faulty_ends : OneTree → (call : Call) (bounds : Bounds) (content : List ℕ) (line rule : ℕ) (ending : Ending) → IsToldSource call bounds content → length content ≤ file_limit → IsFaulty content line rule → IsLawful call ending
@@ -267,6 +273,7 @@ slots_by one bounds bytes slots ScheduleTooLong m v = absurd v
 slots_by one bounds bytes slots ProofTooLong m v = absurd v
 slots_by one bounds bytes slots (BadSchedule line_) m v = absurd v
 slots_by one bounds bytes slots (ReadFault name) m v = absurd v
+slots_by one bounds bytes slots Usage m v = absurd v
 slots_by one bounds bytes slots OutOfMemory m v = tt
 
 pub slots_ends : OneTree → (call : Call) (bounds : Bounds) (content : List ℕ) (slots : ℕ) (ending : Ending) → IsToldSource call bounds content → length content ≤ file_limit → HasManySlots bounds content slots → IsLawful call ending
@@ -291,6 +298,7 @@ cost_by one bounds bytes cost ScheduleTooLong h v = absurd v
 cost_by one bounds bytes cost ProofTooLong h v = absurd v
 cost_by one bounds bytes cost (BadSchedule line_) h v = absurd v
 cost_by one bounds bytes cost (ReadFault name) h v = absurd v
+cost_by one bounds bytes cost Usage h v = absurd v
 cost_by one bounds bytes cost OutOfMemory h v = tt
 
 pub cost_ends : OneTree → (call : Call) (bounds : Bounds) (content : List ℕ) (cost : ℕ) (ending : Ending) → IsToldSource call bounds content → length content ≤ file_limit → HasHighCost bounds content cost → IsLawful call ending
@@ -320,6 +328,7 @@ not_a_token_by bounds bytes line place ScheduleTooLong none v = absurd v
 not_a_token_by bounds bytes line place ProofTooLong none v = absurd v
 not_a_token_by bounds bytes line place (BadSchedule line_) none v = absurd v
 not_a_token_by bounds bytes line place (ReadFault name) none v = absurd v
+not_a_token_by bounds bytes line place Usage none v = absurd v
 not_a_token_by bounds bytes line place OutOfMemory none v = tt
 
 pub not_a_token_ends : (call : Call) (bounds : Bounds) (content : List ℕ) (line place : ℕ) (ending : Ending) → IsToldSource call bounds content → length content ≤ file_limit → HasNoTokens content line place → IsLawful call ending
@@ -349,6 +358,7 @@ not_a_program_by bounds bytes tokens ScheduleTooLong are none v = v
 not_a_program_by bounds bytes tokens ProofTooLong are none v = v
 not_a_program_by bounds bytes tokens (BadSchedule line_) are none v = v
 not_a_program_by bounds bytes tokens (ReadFault name) are none v = v
+not_a_program_by bounds bytes tokens Usage are none v = v
 not_a_program_by bounds bytes tokens OutOfMemory are none v = tt
 
 pub not_a_program_ends : (call : Call) (bounds : Bounds) (content : List ℕ) (tokens : Tokens) (ending : Ending) → IsToldSource call bounds content → length content ≤ file_limit → HasTokens content tokens
@@ -380,7 +390,8 @@ too_long_by call name content ending named tells calm long (rechecked bytes answ
 too_long_by call name content ending named tells calm long (too_long other also over e) = subst (IsEither FileTooLong) (sym e) refl
 too_long_by call name content ending named tells calm long (proof_too_long other also over e) = absurd (not_proof call.words name other named also)
 too_long_by call name content ending named tells calm long (not_read other also cause e) = absurd (no_fault call name content other (inl named) tells calm also cause)
-too_long_by call name content ending named tells calm long (unnamed none e) = absurd (none name (inl named))
+too_long_by call name content ending named tells calm long (unread_words none e) = absurd (no_reading_named call.words none name (inl named))
+too_long_by call name content ending named tells calm long (unbuilt none e) = absurd (unbuilt_named none name (inl named))
 too_long_by call name content ending named tells calm long (out e) = subst (IsEither FileTooLong) (sym e) tt
 
 pub too_long_ends : (call : Call) (bounds : Bounds) (content : List ℕ) (ending : Ending) → IsToldSource call bounds content → file_limit < length content → IsLawful call ending → IsEither FileTooLong ending
@@ -405,28 +416,45 @@ missing_by call name ending named lacks (rechecked bytes answer source is e) = a
 missing_by call name ending named lacks (too_long other also over e) = absurd (lacking_long call name other file_limit named lacks (inl also) over)
 missing_by call name ending named lacks (proof_too_long other also over e) = absurd (lacking_long call name other proof_limit named lacks (inr also) over)
 missing_by call name ending named lacks (not_read other also cause e) = subst (IsEither (ReadFault name)) (sym e) (ap ReadFault (same_named call.words name other named also))
-missing_by call name ending named lacks (unnamed none e) = absurd (none name named)
+missing_by call name ending named lacks (unread_words none e) = absurd (no_reading_named call.words none name named)
+missing_by call name ending named lacks (unbuilt none e) = absurd (unbuilt_named none name named)
 missing_by call name ending named lacks (out e) = subst (IsEither (ReadFault name)) (sym e) tt
 
 pub missing_ends : (call : Call) (name : List ℕ) (ending : Ending) → IsNamed call.words name → Lacks call.files name → IsLawful call ending → IsEither (ReadFault name) ending
 missing_ends call name ending named lacks lawful = missing_by call name ending named lacks (origin call ending lawful)
 
 pub default_named : (words : List (List ℕ)) (name : List ℕ) → IsFileName words name → IsNamed words name
-default_named words name named = inl (inl (2, inl (named, refl)))
+default_named words name named = inl (inl (2, named))
 
-no_file_by : (call : Call) (ending : Ending) → NamesNoFile call → Origin call ending → IsEither (NotBuilt 0) ending
-no_file_by call ending none (decided t bytes source v) = absurd (none source.name (inl (inl (t, source.named))))
-no_file_by call ending none (refused t s bytes source v) = absurd (none source.name (inl (inr (t, s, source.named))))
-no_file_by call ending none (ran t s bytes run ends) = absurd (none run.source.name (inl (inr (t, s, run.source.named))))
-no_file_by call ending none (rechecked bytes answer source is e) = absurd (none source.name (inr source.named))
-no_file_by call ending none (too_long other also over e) = absurd (none other (inl also))
-no_file_by call ending none (proof_too_long other also over e) = absurd (none other (inr also))
-no_file_by call ending none (not_read other also cause e) = absurd (none other also)
-no_file_by call ending none (unnamed other e) = subst (IsEither (NotBuilt 0)) (sym e) refl
-no_file_by call ending none (out e) = subst (IsEither (NotBuilt 0)) (sym e) tt
+usage_by : (call : Call) (ending : Ending) → HasNoReading call.words → Origin call ending → IsEither Usage ending
+usage_by call ending none (decided t bytes source v) = absurd (no_reading_named call.words none source.name (inl (inl (t, source.named))))
+usage_by call ending none (refused t s bytes source v) = absurd (no_reading_named call.words none source.name (inl (inr (t, s, source.named))))
+usage_by call ending none (ran t s bytes run ends) = absurd (no_reading_named call.words none run.source.name (inl (inr (t, s, run.source.named))))
+usage_by call ending none (rechecked bytes answer source is e) = absurd (no_reading_named call.words none source.name (inr source.named))
+usage_by call ending none (too_long other also over e) = absurd (no_reading_named call.words none other (inl also))
+usage_by call ending none (proof_too_long other also over e) = absurd (no_reading_named call.words none other (inr also))
+usage_by call ending none (not_read other also cause e) = absurd (no_reading_named call.words none other also)
+usage_by call ending none (unread_words other e) = subst (IsEither Usage) (sym e) refl
+usage_by call ending none (unbuilt other e) = absurd (none other.asked other.reading)
+usage_by call ending none (out e) = subst (IsEither Usage) (sym e) tt
 
-pub no_file_ends : (call : Call) (ending : Ending) → NamesNoFile call → IsLawful call ending → IsEither (NotBuilt 0) ending
-no_file_ends call ending none lawful = no_file_by call ending none (origin call ending lawful)
+pub usage_ends : (call : Call) (ending : Ending) → HasNoReading call.words → IsLawful call ending → IsEither Usage ending
+usage_ends call ending none lawful = usage_by call ending none (origin call ending lawful)
+
+unbuilt_by : (call : Call) (ending : Ending) → IsUnbuilt call.words → Origin call ending → IsEither (NotBuilt 0) ending
+unbuilt_by call ending none (decided t bytes source v) = absurd (unbuilt_named none source.name (inl (inl (t, source.named))))
+unbuilt_by call ending none (refused t s bytes source v) = absurd (unbuilt_named none source.name (inl (inr (t, s, source.named))))
+unbuilt_by call ending none (ran t s bytes run ends) = absurd (unbuilt_named none run.source.name (inl (inr (t, s, run.source.named))))
+unbuilt_by call ending none (rechecked bytes answer source is e) = absurd (unbuilt_named none source.name (inr source.named))
+unbuilt_by call ending none (too_long other also over e) = absurd (unbuilt_named none other (inl also))
+unbuilt_by call ending none (proof_too_long other also over e) = absurd (unbuilt_named none other (inr also))
+unbuilt_by call ending none (not_read other also cause e) = absurd (unbuilt_named none other also)
+unbuilt_by call ending none (unread_words other e) = absurd (other none.asked none.reading)
+unbuilt_by call ending none (unbuilt other e) = subst (IsEither (NotBuilt 0)) (sym e) refl
+unbuilt_by call ending none (out e) = subst (IsEither (NotBuilt 0)) (sym e) tt
+
+pub unbuilt_ends : (call : Call) (ending : Ending) → IsUnbuilt call.words → IsLawful call ending → IsEither (NotBuilt 0) ending
+unbuilt_ends call ending none lawful = unbuilt_by call ending none (origin call ending lawful)
 
 -- ---- proof files
 
@@ -440,7 +468,8 @@ rechecked_by call content ending told short (too_long other also over e) = absur
 rechecked_by call content ending told short (proof_too_long other also over e) =
     let long = long_told call told.name content other proof_limit (inr told.named) told.tells (inr also) over in absurd (omega arith)
 rechecked_by call content ending told short (not_read other also cause e) = absurd (no_fault call told.name content other (inr told.named) told.tells told.calm also cause)
-rechecked_by call content ending told short (unnamed none e) = absurd (none told.name (inr told.named))
+rechecked_by call content ending told short (unread_words none e) = absurd (no_reading_named call.words none told.name (inr told.named))
+rechecked_by call content ending told short (unbuilt none e) = absurd (unbuilt_named none told.name (inr told.named))
 rechecked_by call content ending told short (out e) = subst (IsAnswer content) (sym e) tt
 
 pub rechecked_ends : (call : Call) (content : List ℕ) (ending : Ending) → IsToldProof call content → length content ≤ proof_limit → IsLawful call ending → IsAnswer content ending
@@ -455,7 +484,8 @@ proof_too_long_by call content ending told long (rechecked bytes answer source i
 proof_too_long_by call content ending told long (too_long other also over e) = absurd (not_proof call.words other told.name also told.named)
 proof_too_long_by call content ending told long (proof_too_long other also over e) = subst (IsEither ProofTooLong) (sym e) refl
 proof_too_long_by call content ending told long (not_read other also cause e) = absurd (no_fault call told.name content other (inr told.named) told.tells told.calm also cause)
-proof_too_long_by call content ending told long (unnamed none e) = absurd (none told.name (inr told.named))
+proof_too_long_by call content ending told long (unread_words none e) = absurd (no_reading_named call.words none told.name (inr told.named))
+proof_too_long_by call content ending told long (unbuilt none e) = absurd (unbuilt_named none told.name (inr told.named))
 proof_too_long_by call content ending told long (out e) = subst (IsEither ProofTooLong) (sym e) tt
 
 pub proof_too_long_ends : (call : Call) (content : List ℕ) (ending : Ending) → IsToldProof call content → proof_limit < length content → IsLawful call ending → IsEither ProofTooLong ending
@@ -484,7 +514,8 @@ run_here one call turns schedule content ending told short admitted (too_long na
 run_here one call turns schedule content ending told short admitted (proof_too_long name named long e) = absurd (proof_run call.words turns name schedule told.name named told.named)
 run_here one call turns schedule content ending told short admitted (not_read name named cause e) =
     absurd (no_fault call told.name content name (inl (inr (turns, schedule, told.named))) told.tells told.calm named cause)
-run_here one call turns schedule content ending told short admitted (unnamed none e) = absurd (none told.name (inl (inr (turns, schedule, told.named))))
+run_here one call turns schedule content ending told short admitted (unread_words none e) = absurd (no_reading_named call.words none told.name (inl (inr (turns, schedule, told.named))))
+run_here one call turns schedule content ending told short admitted (unbuilt none e) = absurd (unbuilt_named none told.name (inl (inr (turns, schedule, told.named))))
 run_here one call turns schedule content ending told short admitted (out e) = inr e
 
 -- what is taken of lz_replay: a text says one schedule, and one answer to a replay is right

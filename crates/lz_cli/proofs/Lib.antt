@@ -1,11 +1,9 @@
 mod AdmissionLemmas
 pub mod EndingLemmas
 pub mod ExactnessLemmas
-mod NamesLemmas
-pub mod NumbersLemmas
+pub mod NamesLemmas
 mod OriginLemmas
 pub mod RefutationLemmas
 mod ReportLemmas
 mod ScheduleLemmas
 mod SourceLemmas
-pub mod WordsLemmas

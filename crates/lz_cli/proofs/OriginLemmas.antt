@@ -11,13 +11,14 @@ use Rattle.lz_replay.specs.declared.answer.Replayed.{Replayed}
 use Rattle.lz_replay.specs.Replays.{Says}
 use Rattle.lz_cli.specs.declared.recheck.Rechecked.{Rechecked}
 use Rattle.lz_cli.specs.declared.ending.Ending.{Ending}
-use Rattle.lz_cli.specs.declared.ending.Ending.TheVariants.{Successful, Failed, NotAToken, NotAProgram, Faulty, ManySlots, HighCost, Recheck, Replay, NotBuilt, FileTooLong, ScheduleTooLong, ProofTooLong, BadSchedule, ReadFault, OutOfMemory}
-use Rattle.lz_cli.specs.CommandLine.{IsProofName, IsSourceName, IsNamed}
+use Rattle.lz_cli.specs.declared.ending.Ending.TheVariants.{Successful, Failed, NotAToken, NotAProgram, Faulty, ManySlots, HighCost, Recheck, Replay, NotBuilt, FileTooLong, ScheduleTooLong, ProofTooLong, BadSchedule, ReadFault, Usage, OutOfMemory}
+use Rattle.lz_words.specs.CommandLine.{HasNoReading}
+use Rattle.lz_cli.specs.CommandLine.{IsUnbuilt, IsProofName, IsSourceName, IsNamed}
 use Rattle.lz_cli.specs.Recheck.{proof_limit, IsRechecked}
 use Rattle.lz_cli.specs.Limits.{Bounds, checking, replaying, schedule_limit}
 use Rattle.lz_cli.specs.Source.{HasNoTokens, HasNoTree}
 use Rattle.lz_cli.specs.Admission.{IsFaulty, HasManySlots, HasHighCost, IsAdmitted}
-use Rattle.lz_cli.specs.Ending.{Call, IsSource, IsRunSource, IsRun, IsProofSource, IsVerdict, IsLawful, NamesNoFile}
+use Rattle.lz_cli.specs.Ending.{Call, IsSource, IsRunSource, IsRun, IsProofSource, IsVerdict, IsLawful}
 use Rattle.lz_cli.proofs.SourceLemmas.{OneTree, no_tokens, no_tree}
 use Rattle.lz_cli.proofs.AdmissionLemmas.{no_fault_accepted, no_slots_accepted, no_cost_accepted}
 
@@ -60,7 +61,8 @@ pub data Origin (call : Call) (ending : Ending) : Type 0 where
   too_long : (name : List ℕ) → IsSourceName call.words name → IsLonger call.files name file_limit → ending ≡ FileTooLong → Origin call ending
   proof_too_long : (name : List ℕ) → IsProofName call.words name → IsLonger call.files name proof_limit → ending ≡ ProofTooLong → Origin call ending
   not_read : (name : List ℕ) → IsNamed call.words name → Rose call.faults_before call.faults_after ⊎ Lacks call.files name → ending ≡ ReadFault name → Origin call ending
-  unnamed : NamesNoFile call → ending ≡ NotBuilt 0 → Origin call ending
+  unread_words : HasNoReading call.words → ending ≡ Usage → Origin call ending
+  unbuilt : IsUnbuilt call.words → ending ≡ NotBuilt 0 → Origin call ending
   out : ending ≡ OutOfMemory → Origin call ending
 
 -- each lawful ending has one
@@ -81,7 +83,7 @@ origin call (Recheck answer) from = rechecked from.0 answer from.1 from.2 refl
 origin call (Replay answer) from =
     ran from.turns from.by.schedule from.bytes from.by.run (replayed from.text from.steps answer from.by.held from.by.within_limit from.read from.says refl)
 origin call (NotBuilt line) (inl from) = decided from.0 from.1 from.2 from.3
-origin call (NotBuilt line) (inr none) = unnamed none.0 (ap NotBuilt none.1)
+origin call (NotBuilt line) (inr un) = unbuilt un.0 (ap NotBuilt un.1)
 origin call FileTooLong from = too_long from.name from.named from.longer refl
 origin call ScheduleTooLong from = ran from.turns from.schedule from.bytes from.run (longer from.longer refl)
 origin call ProofTooLong from = proof_too_long from.name from.named from.longer refl
@@ -89,4 +91,5 @@ origin call (BadSchedule line) from =
     ran from.turns from.by.schedule from.bytes from.by.run (unreadable from.text line from.by.held from.by.within_limit from.bad refl)
 origin call (ReadFault name) (inl from) = not_read name from.named from.cause refl
 origin call (ReadFault name) (inr from) = ran from.turns name from.bytes from.run (unread from.cause refl)
+origin call Usage none = unread_words none refl
 origin call OutOfMemory from = out refl

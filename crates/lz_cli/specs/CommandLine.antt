@@ -1,74 +1,68 @@
--- Trusted: which words of a command line name files, and what for.
-use Rattle.std.specs.Prelude.{◌≡◌, ◌⊎◌, ℕ, ◌^◌, codes, Bool, true, false, ◌==◌, ◌&&◌, nat_lt, nat_le, List, [], ◌∷◌, length, Option, Some, None}
-use Rattle.std.specs.List.{list_all}
-use Rattle.std.specs.Char.{is_ascii_digit}
-use Rattle.std.specs.Str.Parse.{digits_value}
-use Rattle.lz_cli.specs.Limits.{default_unwind, greatest_unwind, digit_limit}
+-- Trusted: what a reading of the words asks for, how much of it is built, and which files it names.
+use Rattle.std.specs.Prelude.{◌≡◌, ◌⊎◌, ℕ, ◌==◌, ◌&&◌, Bool, true, false, List, Some, is_none}
+use Rattle.lz_words.specs.declared.asked.Asked.{Asked}
+use Rattle.lz_words.specs.declared.asked.Mode.{Mode}
+use Rattle.lz_words.specs.declared.asked.Mode.TheVariants as modes
+use Rattle.lz_words.specs.CommandLine.{IsReading, HasNoReading}
+use Rattle.lz_cli.specs.Limits.{default_unwind, default_rounds, default_conflicts}
 
--- the word begins with `-` (45)
-abbrev pub begins_with_dash : List ℕ → Bool
-begins_with_dash [] = false
-begins_with_dash (first ∷ rest) = first == 45
+-- ---- what is built
 
--- the words are one, which does not begin with `-`: the name of the file
+-- the default numbers of rounds and conflicts, and no name for a proof
+abbrev pub is_plain : Asked → Bool
+is_plain asked = (asked.rounds == default_rounds) && ((asked.conflicts == default_conflicts) && is_none asked.proof)
+
+-- a decision within these, a replay or a recheck
+abbrev pub is_built_in : Mode → Asked → Bool
+is_built_in modes.Check asked = is_plain asked
+is_built_in modes.Replay asked = true
+is_built_in modes.Recheck asked = true
+is_built_in modes.Gen asked = false
+is_built_in modes.Emit asked = false
+
+abbrev pub is_built : Asked → Bool
+is_built asked = is_built_in asked.mode asked
+
+-- the words ask for what is not built
+pub record IsUnbuilt (words : List (List ℕ)) : Type 0 where
+  pub asked : Asked
+  pub reading : IsReading words asked
+  pub unbuilt : is_built asked ≡ false
+
+-- the words have no reading, or ask for what is not built
+abbrev pub AskForNoFile : List (List ℕ) → Type 0
+AskForNoFile words = HasNoReading words ⊎ IsUnbuilt words
+
+-- ---- files that are read
+
+-- the words ask for a decision of the file of this name, with so many turns
+pub record IsCheckName (words : List (List ℕ)) (turns : ℕ) (name : List ℕ) : Type 0 where
+  pub asked : Asked
+  pub reading : IsReading words asked
+  pub mode : asked.mode ≡ modes.Check
+  pub plain : is_plain asked ≡ true
+  pub told_turns : turns ≡ asked.unwind
+  pub told_name : name ≡ asked.file
+
+-- the same, with as many turns as where no word says another number
 abbrev pub IsFileName : List (List ℕ) → List ℕ → Type 0
-IsFileName words name = (words ≡ name ∷ []) × (begins_with_dash name ≡ false)
+IsFileName words name = IsCheckName words default_unwind name
 
--- the words are `--mode`, `recheck` and a name that does not begin with `-`: the name of a proof file
-abbrev pub IsProofName : List (List ℕ) → List ℕ → Type 0
-IsProofName words name = (words ≡ codes "--mode" ∷ codes "recheck" ∷ name ∷ []) × (begins_with_dash name ≡ false)
+-- the words ask that the file of this name be run by the schedule of that name, with so many turns
+pub record IsReplayName (words : List (List ℕ)) (turns : ℕ) (schedule name : List ℕ) : Type 0 where
+  pub asked : Asked
+  pub reading : IsReading words asked
+  pub mode : asked.mode ≡ modes.Replay
+  pub told_schedule : asked.schedule ≡ Some schedule
+  pub told_turns : turns ≡ asked.unwind
+  pub told_name : name ≡ asked.file
 
--- ---- the turns that a loop may take each time that it is entered
-
-abbrev pub some_where : Bool → ℕ → Option ℕ
-some_where true number = Some number
-some_where false number = None
-
--- the word is one to twenty decimal digits
-abbrev pub is_number : List ℕ → Bool
-is_number word = nat_lt 0 (length word) && (nat_le (length word) digit_limit && list_all is_ascii_digit word)
-
--- the number that such a word writes, where 64 bits hold it
-abbrev pub number_of : List ℕ → Option ℕ
-number_of word = some_where (is_number word && nat_lt (digits_value 10 word) (2 ^ 64)) (digits_value 10 word)
-
--- a number of turns that a word may say
-abbrev pub in_range : Option ℕ → Option ℕ
-in_range None = None
-in_range (Some number) = some_where (nat_lt 0 number && nat_le number greatest_unwind) number
-
--- the number of turns that a word writes, if it writes one
-abbrev pub turns_of : List ℕ → Option ℕ
-turns_of word = in_range (number_of word)
-
--- ---- a file whose program is decided
-
--- the words are `--unwind`, a number of turns and a name that does not begin with `-`: the name of the file
-abbrev pub IsBoundedName : List (List ℕ) → ℕ → List ℕ → Type 0
-IsBoundedName words turns name =
-    (word : List ℕ) × (words ≡ codes "--unwind" ∷ word ∷ name ∷ []) × (turns_of word ≡ Some turns) × (begins_with_dash name ≡ false)
-
--- the words name a file whose program is decided, and so many turns: the default where no word says it
-abbrev pub IsCheckName : List (List ℕ) → ℕ → List ℕ → Type 0
-IsCheckName words turns name = (IsFileName words name × (turns ≡ default_unwind)) ⊎ IsBoundedName words turns name
-
--- ---- a file whose program is run by a schedule
-
--- the words are `--mode`, `replay`, `--schedule` and two names that do not begin with `-`: those of a schedule and of the file
-abbrev pub IsPlainReplay : List (List ℕ) → List ℕ → List ℕ → Type 0
-IsPlainReplay words schedule name =
-    (words ≡ codes "--mode" ∷ codes "replay" ∷ codes "--schedule" ∷ schedule ∷ name ∷ [])
-    × (begins_with_dash schedule ≡ false) × (begins_with_dash name ≡ false)
-
--- the same, with `--unwind` and a number of turns behind `replay`
-abbrev pub IsBoundedReplay : List (List ℕ) → ℕ → List ℕ → List ℕ → Type 0
-IsBoundedReplay words turns schedule name =
-    (word : List ℕ) × (words ≡ codes "--mode" ∷ codes "replay" ∷ codes "--unwind" ∷ word ∷ codes "--schedule" ∷ schedule ∷ name ∷ [])
-    × (turns_of word ≡ Some turns) × (begins_with_dash schedule ≡ false) × (begins_with_dash name ≡ false)
-
--- the words name a schedule, a file whose program is run by it, and so many turns: the default where no word says it
-abbrev pub IsReplayName : List (List ℕ) → ℕ → List ℕ → List ℕ → Type 0
-IsReplayName words turns schedule name = (IsPlainReplay words schedule name × (turns ≡ default_unwind)) ⊎ IsBoundedReplay words turns schedule name
+-- the words ask for a recheck of the proof file of this name
+pub record IsProofName (words : List (List ℕ)) (name : List ℕ) : Type 0 where
+  pub asked : Asked
+  pub reading : IsReading words asked
+  pub mode : asked.mode ≡ modes.Recheck
+  pub told_name : name ≡ asked.file
 
 -- ---- files that are read first
 

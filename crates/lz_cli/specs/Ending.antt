@@ -18,8 +18,9 @@ use Rattle.lz_cnf.specs.Models.{IsFormula, HasModel}
 use Rattle.lz_log.specs.declared.log.LogStep.{LogStep}
 use Rattle.lz_log.specs.Refutation.{Refutes}
 use Rattle.lz_cli.specs.declared.ending.Ending.{Ending}
-use Rattle.lz_cli.specs.declared.ending.Ending.TheVariants.{Successful, Failed, NotAToken, NotAProgram, Faulty, ManySlots, HighCost, Recheck, Replay, NotBuilt, FileTooLong, ScheduleTooLong, ProofTooLong, BadSchedule, ReadFault, OutOfMemory}
-use Rattle.lz_cli.specs.CommandLine.{IsProofName, IsCheckName, IsReplayName, IsSourceName, IsNamed}
+use Rattle.lz_cli.specs.declared.ending.Ending.TheVariants.{Successful, Failed, NotAToken, NotAProgram, Faulty, ManySlots, HighCost, Recheck, Replay, NotBuilt, FileTooLong, ScheduleTooLong, ProofTooLong, BadSchedule, ReadFault, Usage, OutOfMemory}
+use Rattle.lz_words.specs.CommandLine.{HasNoReading}
+use Rattle.lz_cli.specs.CommandLine.{IsUnbuilt, IsProofName, IsCheckName, IsReplayName, IsSourceName, IsNamed}
 use Rattle.lz_cli.specs.Recheck.{proof_limit, IsRechecked}
 use Rattle.lz_cli.specs.Source.{HasNoTokens, HasNoTree}
 use Rattle.lz_base.specs.Limits.{file_limit}
@@ -76,6 +77,7 @@ IsVerdict bounds bytes ScheduleTooLong = ⊥
 IsVerdict bounds bytes ProofTooLong = ⊥
 IsVerdict bounds bytes (BadSchedule line) = ⊥
 IsVerdict bounds bytes (ReadFault name) = ⊥
+IsVerdict bounds bytes Usage = ⊥
 IsVerdict bounds bytes OutOfMemory = ⊤
 
 -- ---- endings
@@ -171,10 +173,6 @@ pub record IsProofTooLong (call : Call) : Type 0 where
   pub named : IsProofName call.words name
   pub longer : IsLonger call.files name proof_limit
 
--- the words name no file, of either kind
-abbrev pub NamesNoFile : Call → Type 0
-NamesNoFile call = (name : List ℕ) → IsNamed call.words name → ⊥
-
 -- the file is longer than the limit, where that is told
 pub record IsFileTooLong (call : Call) : Type 0 where
   pub name : List ℕ
@@ -205,10 +203,11 @@ IsLawful call (ManySlots slots) = IsFromSource call (ManySlots slots)
 IsLawful call (HighCost cost) = IsFromSource call (HighCost cost)
 IsLawful call (Recheck answer) = (bytes : List ℕ) × IsProofSource call bytes × IsRechecked bytes answer
 IsLawful call (Replay answer) = IsReplayed call answer
-IsLawful call (NotBuilt line) = IsFromFile call (NotBuilt line) ⊎ (NamesNoFile call × (line ≡ 0))
+IsLawful call (NotBuilt line) = IsFromFile call (NotBuilt line) ⊎ (IsUnbuilt call.words × (line ≡ 0))
 IsLawful call FileTooLong = IsFileTooLong call
 IsLawful call ScheduleTooLong = IsScheduleTooLong call
 IsLawful call ProofTooLong = IsProofTooLong call
 IsLawful call (BadSchedule line) = IsBadSchedule call line
 IsLawful call (ReadFault name) = IsReadFault call name ⊎ IsScheduleFault call name
+IsLawful call Usage = HasNoReading call.words
 IsLawful call OutOfMemory = ⊤

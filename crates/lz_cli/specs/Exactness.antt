@@ -12,7 +12,7 @@ use Rattle.lz_tree.specs.ScopedTrees.{ScopedProgram}
 use Rattle.lz_replay.specs.declared.answer.Replayed.{Replayed}
 use Rattle.lz_replay.specs.Replays.{Says}
 use Rattle.lz_cli.specs.declared.ending.Ending.{Ending}
-use Rattle.lz_cli.specs.declared.ending.Ending.TheVariants.{Successful, Failed, NotAToken, NotAProgram, Faulty, ManySlots, HighCost, Recheck, Replay, NotBuilt, FileTooLong, ScheduleTooLong, ProofTooLong, BadSchedule, ReadFault, OutOfMemory}
+use Rattle.lz_cli.specs.declared.ending.Ending.TheVariants.{Successful, Failed, NotAToken, NotAProgram, Faulty, ManySlots, HighCost, Recheck, Replay, NotBuilt, FileTooLong, ScheduleTooLong, ProofTooLong, BadSchedule, ReadFault, Usage, OutOfMemory}
 use Rattle.lz_cli.specs.CommandLine.{IsFileName, IsProofName, IsCheckName, IsReplayName}
 use Rattle.lz_cli.specs.Recheck.{IsRechecked}
 use Rattle.lz_cli.specs.Limits.{Bounds, defaults, checking, replaying}
@@ -68,6 +68,7 @@ IsDecidedWithin bounds p ScheduleTooLong = ⊥
 IsDecidedWithin bounds p ProofTooLong = ⊥
 IsDecidedWithin bounds p (BadSchedule line) = ⊥
 IsDecidedWithin bounds p (ReadFault name) = ⊥
+IsDecidedWithin bounds p Usage = ⊥
 IsDecidedWithin bounds p OutOfMemory = ⊤
 
 -- the same within the default bounds
@@ -97,6 +98,7 @@ IsEither expected ScheduleTooLong = expected ≡ ScheduleTooLong
 IsEither expected ProofTooLong = expected ≡ ProofTooLong
 IsEither expected (BadSchedule line) = expected ≡ BadSchedule line
 IsEither expected (ReadFault name) = expected ≡ ReadFault name
+IsEither expected Usage = expected ≡ Usage
 IsEither expected OutOfMemory = ⊤
 
 -- the words name a proof file that the folder tells, with this content, and no read failed

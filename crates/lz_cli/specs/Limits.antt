@@ -1,6 +1,7 @@
 -- Trusted: the bounds of a call on runs, where no word says others, and the limits on programs.
 use Rattle.std.specs.Prelude.{ℕ}
 pub use Rattle.lz_base.specs.Limits.{cost_limit, slot_limit}
+pub use Rattle.lz_words.specs.Limits.{default_unwind, default_rounds, default_conflicts}
 
 -- The bounds of a call: the turns of a loop each time that it is entered, the rounds of a run, and the
 -- conflicts that a solver may spend.
@@ -9,33 +10,13 @@ pub record Bounds : Type 0 where
   pub rounds : ℕ
   pub conflicts : ℕ
 
--- the turns where no word says another number
-abbrev pub default_unwind : ℕ
-default_unwind = 2
-
--- the rounds of a decision
-abbrev pub default_rounds : ℕ
-default_rounds = 2
-
 -- the rounds with which the cost of a replay is taken
 abbrev pub replay_rounds : ℕ
 replay_rounds = 1
 
--- the most conflicts that a solver may spend
-abbrev pub conflict_limit : ℕ
-conflict_limit = 100000
-
--- the greatest number of turns that a word may say
-abbrev pub greatest_unwind : ℕ
-greatest_unwind = 100
-
--- the most digits with which a word may say it
-abbrev pub digit_limit : ℕ
-digit_limit = 20
-
 -- with so many turns and rounds
 abbrev pub within : ℕ → ℕ → Bounds
-within turns rounds = record { unwind = turns; rounds = rounds; conflicts = conflict_limit }
+within turns rounds = record { unwind = turns; rounds = rounds; conflicts = default_conflicts }
 
 -- where no word says another
 abbrev pub defaults : Bounds

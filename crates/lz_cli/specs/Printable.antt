@@ -2,7 +2,7 @@
 use Rattle.std.specs.Prelude.{◌<◌, ◌^◌, ⊤}
 use Rattle.lz_model.specs.Rounds.{rounds_of, threads_of}
 use Rattle.lz_cli.specs.declared.ending.Ending.{Ending}
-use Rattle.lz_cli.specs.declared.ending.Ending.TheVariants.{Successful, Failed, NotAToken, NotAProgram, Faulty, ManySlots, HighCost, Recheck, Replay, NotBuilt, FileTooLong, ScheduleTooLong, ProofTooLong, BadSchedule, ReadFault, OutOfMemory}
+use Rattle.lz_cli.specs.declared.ending.Ending.TheVariants.{Successful, Failed, NotAToken, NotAProgram, Faulty, ManySlots, HighCost, Recheck, Replay, NotBuilt, FileTooLong, ScheduleTooLong, ProofTooLong, BadSchedule, ReadFault, Usage, OutOfMemory}
 
 -- how many rounds a failure's schedule has fits its type; nothing else can be too large
 abbrev pub IsPrintable : Ending → Type 0
@@ -21,4 +21,5 @@ IsPrintable ScheduleTooLong = ⊤
 IsPrintable ProofTooLong = ⊤
 IsPrintable (BadSchedule line) = ⊤
 IsPrintable (ReadFault name) = ⊤
+IsPrintable Usage = ⊤
 IsPrintable OutOfMemory = ⊤

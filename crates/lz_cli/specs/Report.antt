@@ -9,7 +9,7 @@ use Rattle.lz_model.specs.Rounds.{rounds_of, threads_of}
 use Rattle.lz_replay.specs.declared.answer.Replayed.{Replayed}
 use Rattle.lz_replay.specs.declared.answer.Replayed.TheVariants.{Broke, Holds, NotARun}
 use Rattle.lz_cli.specs.declared.ending.Ending.{Ending}
-use Rattle.lz_cli.specs.declared.ending.Ending.TheVariants.{Successful, Failed, NotAToken, NotAProgram, Faulty, ManySlots, HighCost, Recheck, Replay, NotBuilt, FileTooLong, ScheduleTooLong, ProofTooLong, BadSchedule, ReadFault, OutOfMemory}
+use Rattle.lz_cli.specs.declared.ending.Ending.TheVariants.{Successful, Failed, NotAToken, NotAProgram, Faulty, ManySlots, HighCost, Recheck, Replay, NotBuilt, FileTooLong, ScheduleTooLong, ProofTooLong, BadSchedule, ReadFault, Usage, OutOfMemory}
 use Rattle.lz_cli.specs.declared.evidence.Evidence.{Evidence}
 use Rattle.lz_cli.specs.declared.evidence.Evidence.TheVariants.{Nothing, Proof}
 use Rattle.lz_base.specs.Limits.{file_limit}
@@ -48,6 +48,11 @@ replay_status (Broke kind line events) = 1
 replay_status (Holds events) = 0
 replay_status (NotARun index) = 9
 
+-- how the command is called
+abbrev pub usage_line : List ℕ
+usage_line =
+    codes "usage: lazycheck [--mode check|replay|recheck|gen|emit] [--unwind N] [--rounds K] [--conflicts C] [--schedule NAME] [--proof NAME] [--seed S] FILE\n"
+
 -- each line ends with a newline
 abbrev pub report : Ending → List ℕ
 report (Successful unwind rounds formula log) = success_line unwind rounds
@@ -67,6 +72,7 @@ report ScheduleTooLong = codes "LIMIT schedule over " ++ decimal schedule_limit 
 report ProofTooLong = codes "LIMIT proof over " ++ decimal proof_limit ++ codes " bytes\n"
 report (BadSchedule line) = codes "TEXT line " ++ decimal line ++ codes "\n"
 report (ReadFault name) = codes "READ " ++ name ++ codes "\n"
+report Usage = usage_line
 report OutOfMemory = codes "MEMORY\n"
 
 -- the status that the command ends with
@@ -86,6 +92,7 @@ status_of ScheduleTooLong = 5
 status_of ProofTooLong = 5
 status_of (BadSchedule line) = 10
 status_of (ReadFault name) = 6
+status_of Usage = 3
 status_of OutOfMemory = 8
 
 -- what shows that the ending is right, beside its report
@@ -105,4 +112,5 @@ evidence_of ScheduleTooLong = Nothing
 evidence_of ProofTooLong = Nothing
 evidence_of (BadSchedule line) = Nothing
 evidence_of (ReadFault name) = Nothing
+evidence_of Usage = Nothing
 evidence_of OutOfMemory = Nothing

@@ -1,7 +1,10 @@
 //! The top call.
 
-ghost use Rattle.std.specs.Prelude.{◌≡◌, ◌≤◌, ℕ, List, None, length, IfOk};
-ghost use Rattle.lz_cli.specs.CommandLine.{IsCheckName, IsNamed, IsProofName, IsReplayName};
+ghost use Rattle.std.specs.Prelude.{◌≡◌, ◌≤◌, ℕ, List, None, false, length, IfOk};
+ghost use Rattle.lz_words.specs.declared.asked.Mode.TheVariants as modes;
+ghost use Rattle.lz_words.specs.CommandLine.{IsReading};
+ghost use Rattle.lz_cli.specs.CommandLine as spec;
+ghost use Rattle.lz_cli.specs.CommandLine.{AskForNoFile, IsCheckName, IsProofName, IsReplayName};
 ghost use Rattle.lz_cli.specs.Report.{report, status_of};
 ghost use Rattle.lz_cli.specs.Printable.{IsPrintable};
 ghost use Rattle.lz_base.specs.Limits.{file_limit};
@@ -15,7 +18,7 @@ ghost use Rattle.lz_cli.specs.Admit.{IsRefusedBy, Admits};
 ghost use Rattle.lz_cli.specs.Command.{output_of, IsDeliveredOrCutOff, Answers};
 
 use crate::admit::{Refusal, admit};
-use crate::command_line::{Words, check_name, proof_name, replay_names};
+use crate::command_line::is_plain;
 use crate::ending::Ending;
 use crate::evidence::Evidence;
 use crate::limits::{DEFAULT_ROUNDS, REPLAY_ROUNDS, SCHEDULE_LIMIT};
@@ -29,12 +32,13 @@ use lz_fits::program_fits;
 use lz_outside::{Failed, Folder, ReadError, Sink, read_all, write_all};
 use lz_replay::{Decided, decide};
 use lz_tree::Scoped;
+use lz_words::{Asked, Mode, Words, WordsError, read_words};
 use std::alloc::Global;
 
 /// How a call ended: the status that the program ends with, and what shows that the verdict is right.
 #[derive(Debug, Drop)]
 pub struct Ended {
-    /// 0, 1, 4, 5, 6, 8, 9, 10, 11 or 12, as the report says, or 7 where the report could not be written whole.
+    /// 0, 1, 3, 4, 5, 6, 8, 9, 10, 11 or 12, as the report says, or 7 where the report could not be written whole.
     pub status: u8,
     pub evidence: Evidence,
 }
@@ -42,16 +46,16 @@ pub struct Ended {
 /// The status of a call whose report could not be written whole.
 const CUT_OFF: u8 = 7;
 
-/// Reads the file that the words name, decides its program, runs it by a schedule or rechecks a log, and writes the report,
-/// which is made whole before any of it is written. No told file changes.
+/// Reads the words and the file that they name, decides its program, runs it by a schedule or rechecks a log, and writes the
+/// report, which is made whole before any of it is written. No told file changes.
 pub fn run<F: Folder, O: Sink>(alloc: Global, words: &Words, folder: &mut F, out: &mut O) -> Ended
     // Some lawful ending is told; where the sink failed, some front of its report.
     ensures answers { Answers
         (call_of words.now (F.files folder.old) (F.read_faults folder.old) (F.read_faults folder.new))
         (output_of (O.written out.old) (O.written out.new) (O.faults out.old) (O.faults out.new))
         result.status result.evidence }
-    // Where the words name no file, nothing is read.
-    ensures not_read { ((name : List ℕ) → IsNamed words.now name → ⊥) → folder.new ≡ folder.old }
+    // Where the words have no reading, or ask for what is not built, nothing is read.
+    ensures not_read { AskForNoFile words.now → folder.new ≡ folder.old }
     ensures keeps_files { F.files folder.new ≡ F.files folder.old }
     ensures read_faults { F.read_faults folder.old ≤ F.read_faults folder.new }
     ensures same_writes { F.write_faults folder.new ≡ F.write_faults folder.old }
@@ -69,53 +73,71 @@ fn conclude<F: Folder>(alloc: Global, words: &Words, folder: &mut F) -> Result<E
     ensures lawful { IfOk result (IsLawful
         (call_of words.now (F.files folder.old) (F.read_faults folder.old) (F.read_faults folder.new))) }
     ensures printable { IfOk result IsPrintable }
-    ensures not_read { ((name : List ℕ) → IsNamed words.now name → ⊥) → folder.new ≡ folder.old }
+    ensures not_read { AskForNoFile words.now → folder.new ≡ folder.old }
     ensures keeps_files { F.files folder.new ≡ F.files folder.old }
     ensures read_faults { F.read_faults folder.old ≤ F.read_faults folder.new }
     ensures same_writes { F.write_faults folder.new ≡ F.write_faults folder.old }
 {
-    match check_name(words) {
-        Some((unwind, name)) => conclude_file(alloc, unwind, name, folder),
-        None => conclude_other(alloc, words, folder),
+    match read_words(alloc, words) {
+        Ok(asked) => conclude_asked(alloc, &asked, folder),
+        Err(WordsError::Usage) => Ok(Ending::Usage),
+        Err(WordsError::Memory) => Err(Memory),
     }
 }
 
-/// What a call comes to whose words name no file whose program is decided.
-fn conclude_other<F: Folder>(alloc: Global, words: &Words, folder: &mut F) -> Result<Ending, Memory>
-    requires { (turns : ℕ) (name : List ℕ) → IsCheckName words.now turns name → ⊥ }
-    ensures lawful { IfOk result (IsLawful
-        (call_of words.now (F.files folder.old) (F.read_faults folder.old) (F.read_faults folder.new))) }
+/// What a call comes to whose words ask for this.
+fn conclude_asked<F: Folder>(alloc: Global, asked: &Asked, folder: &mut F) -> Result<Ending, Memory>
+    ensures lawful { IfOk result (λ ending. (words : List (List ℕ)) → IsReading words asked.now → IsLawful
+        (call_of words (F.files folder.old) (F.read_faults folder.old) (F.read_faults folder.new)) ending) }
     ensures printable { IfOk result IsPrintable }
-    ensures not_read { ((name : List ℕ) → IsNamed words.now name → ⊥) → folder.new ≡ folder.old }
+    ensures not_read { spec.is_built asked.now ≡ false → folder.new ≡ folder.old }
     ensures keeps_files { F.files folder.new ≡ F.files folder.old }
     ensures read_faults { F.read_faults folder.old ≤ F.read_faults folder.new }
     ensures same_writes { F.write_faults folder.new ≡ F.write_faults folder.old }
 {
-    match proof_name(words) {
-        Some(name) => conclude_proof(alloc, name, folder),
-        None => conclude_by_schedule(alloc, words, folder),
+    match asked.mode {
+        Mode::Check => conclude_check(alloc, asked, folder),
+        Mode::Replay => conclude_scheduled(alloc, asked, folder),
+        Mode::Recheck => conclude_proof(alloc, &asked.file, folder),
+        Mode::Gen => Ok(Ending::NotBuilt { line: 0 }),
+        Mode::Emit => Ok(Ending::NotBuilt { line: 0 }),
     }
 }
 
-/// What a call comes to whose words name no proof file either.
-fn conclude_by_schedule<F: Folder>(
+/// What a decision comes to, which is built within the default numbers of rounds and conflicts and without a proof.
+fn conclude_check<F: Folder>(alloc: Global, asked: &Asked, folder: &mut F) -> Result<Ending, Memory>
+    requires { asked.now.mode ≡ modes.Check }
+    ensures lawful { IfOk result (λ ending. (words : List (List ℕ)) → IsReading words asked.now → IsLawful
+        (call_of words (F.files folder.old) (F.read_faults folder.old) (F.read_faults folder.new)) ending) }
+    ensures printable { IfOk result IsPrintable }
+    ensures not_read { spec.is_plain asked.now ≡ false → folder.new ≡ folder.old }
+    ensures keeps_files { F.files folder.new ≡ F.files folder.old }
+    ensures read_faults { F.read_faults folder.old ≤ F.read_faults folder.new }
+    ensures same_writes { F.write_faults folder.new ≡ F.write_faults folder.old }
+{
+    if !is_plain(asked) {
+        return Ok(Ending::NotBuilt { line: 0 });
+    }
+    conclude_file(alloc, asked.unwind, &asked.file, folder)
+}
+
+/// What a replay comes to, whose words name a schedule.
+fn conclude_scheduled<F: Folder>(
     alloc: Global,
-    words: &Words,
+    asked: &Asked,
     folder: &mut F,
 ) -> Result<Ending, Memory>
-    requires no_check { (turns : ℕ) (name : List ℕ) → IsCheckName words.now turns name → ⊥ }
-    requires no_proof { (name : List ℕ) → IsProofName words.now name → ⊥ }
-    ensures lawful { IfOk result (IsLawful
-        (call_of words.now (F.files folder.old) (F.read_faults folder.old) (F.read_faults folder.new))) }
+    requires { asked.now.mode ≡ modes.Replay }
+    ensures lawful { IfOk result (λ ending. (words : List (List ℕ)) → IsReading words asked.now → IsLawful
+        (call_of words (F.files folder.old) (F.read_faults folder.old) (F.read_faults folder.new)) ending) }
     ensures printable { IfOk result IsPrintable }
-    ensures not_read { ((name : List ℕ) → IsNamed words.now name → ⊥) → folder.new ≡ folder.old }
     ensures keeps_files { F.files folder.new ≡ F.files folder.old }
     ensures read_faults { F.read_faults folder.old ≤ F.read_faults folder.new }
     ensures same_writes { F.write_faults folder.new ≡ F.write_faults folder.old }
 {
-    match replay_names(words) {
-        Some((unwind, schedule, name)) => conclude_replay(alloc, unwind, schedule, name, folder),
-        None => Ok(Ending::NotBuilt { line: 0 }),
+    match &asked.schedule {
+        Some(schedule) => conclude_replay(alloc, asked.unwind, schedule, &asked.file, folder),
+        None => Ok(Ending::Usage),
     }
 }
 

@@ -54,7 +54,7 @@ pub enum Ending {
     Replay {
         answer: Replayed,
     },
-    /// The file, or the words, have a form that is not built.
+    /// What the words ask for, or the program of the file, is not built.
     NotBuilt {
         line: u32,
     },
@@ -72,6 +72,8 @@ pub enum Ending {
     ReadFault {
         name: Name,
     },
+    /// The words have no reading.
+    Usage,
     /// Memory ran out.
     OutOfMemory,
 }
@@ -109,6 +111,7 @@ impl Ending {
             Ending::ProofTooLong => Evidence::Nothing,
             Ending::BadSchedule { line: _ } => Evidence::Nothing,
             Ending::ReadFault { name: _ } => Evidence::Nothing,
+            Ending::Usage => Evidence::Nothing,
             Ending::OutOfMemory => Evidence::Nothing,
         }
     }

@@ -1,5 +1,5 @@
 //! Which endings are lawful where the folder tells the named file and no read of it failed, where the told files lack
-//! it, and where no file is named.
+//! it, and where the words have no reading or ask for what is not built.
 
 ghost use Rattle.std.specs.Prelude.{◌≡◌, ℕ, ◌<◌, ◌≤◌, ◌^◌, List, length, Some, None};
 ghost use Rattle.lz_base.specs.declared.word.BreakKind.{BreakKind};
@@ -15,12 +15,13 @@ ghost use Rattle.lz_choices.specs.Choices.{first_choice};
 ghost use Rattle.lz_replay.specs.declared.answer.Replayed.{Replayed};
 ghost use Rattle.lz_replay.specs.Replays.{Says};
 ghost use Rattle.lz_cli.specs.declared.ending.Ending.{Ending};
-ghost use Rattle.lz_cli.specs.CommandLine.{IsFileName, IsProofName, IsSourceName};
+ghost use Rattle.lz_words.specs.CommandLine.{HasNoReading};
+ghost use Rattle.lz_cli.specs.CommandLine.{IsUnbuilt, IsFileName, IsProofName, IsSourceName};
 ghost use Rattle.lz_base.specs.Limits.{file_limit};
 ghost use Rattle.lz_cli.specs.Source.{HasNoTokens};
 ghost use Rattle.lz_cli.specs.Limits.{Bounds, defaults, checking, replaying, schedule_limit};
 ghost use Rattle.lz_cli.specs.Admission.{IsFaulty, HasManySlots, HasHighCost, IsAdmitted};
-ghost use Rattle.lz_cli.specs.Ending.{Call, IsLawful, NamesNoFile};
+ghost use Rattle.lz_cli.specs.Ending.{Call, IsLawful};
 ghost use Rattle.lz_cli.specs.Report.{report};
 ghost use Rattle.lz_cli.specs.Recheck.{proof_limit};
 ghost use Rattle.lz_cli.specs.Exactness.{IsToldFile, IsToldCheck, IsToldRun, IsToldSource, IsToldReplay, IsToldProof, IsAnswer, IsDecided, IsDecidedWithin, IsRefusal, IsEither, IsRunAnswer};
@@ -31,7 +32,7 @@ use lz_parse::one_program;
 use lz_replay::{one_answer, one_schedule};
 
 /// What a lawful ending is, in every call where the folder tells the named file and no read failed, and where
-/// no file is named or the told files lack it.
+/// the words have no reading, ask for what is not built, or name a file that the told files lack.
 pub fn endings_are_exact()
     // A file whose program breaks no rule, is within the limits and has no choice is decided.
     ensures decided { (call : Call) (content : List ℕ) (ending : Ending) → IsToldFile call content
@@ -79,8 +80,11 @@ pub fn endings_are_exact()
     // So it is of a proof file.
     ensures missing_proof { (call : Call) (name : List ℕ) (ending : Ending) → IsProofName call.words name
         → Lacks call.files name → IsLawful call ending → IsEither (Ending.ReadFault name) ending }
-    // Words that name no file are not built.
-    ensures no_file { (call : Call) (ending : Ending) → NamesNoFile call
+    // Words without a reading are told how the command is called,
+    ensures usage { (call : Call) (ending : Ending) → HasNoReading call.words
+        → IsLawful call ending → IsEither Ending.Usage ending }
+    // and what is not built of those with one is told.
+    ensures unbuilt { (call : Call) (ending : Ending) → IsUnbuilt call.words
         → IsLawful call ending → IsEither (Ending.NotBuilt 0) ending }
     // Of a file whose program is decided with another number of turns the same is true within it: one without a choice is decided,
     ensures decided_within { (call : Call) (turns : ℕ) (content : List ℕ) (ending : Ending) → IsToldCheck call turns content

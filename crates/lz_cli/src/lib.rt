@@ -14,8 +14,8 @@ mod replaying;
 mod report;
 
 pub use command::{Ended, end_out_of_memory, run};
-pub use command_line::Words;
 pub use ending::Ending;
 pub use evidence::Evidence;
 pub use exactness::endings_are_exact;
+pub use lz_words::{Asked, Mode, Words, WordsError, read_words};
 pub use recheck::Rechecked;

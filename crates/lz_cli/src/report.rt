@@ -48,6 +48,7 @@ pub fn print(alloc: Global, ending: &Ending) -> Result<Bytes, Memory>
         Ending::ProofTooLong => proof_too_long(alloc),
         Ending::BadSchedule { line } => one_number(alloc, b"TEXT line ", u64::from(*line)),
         Ending::ReadFault { name } => read_fault(alloc, name),
+        Ending::Usage => usage(alloc),
         Ending::OutOfMemory => out_of_memory(alloc),
     }
 }
@@ -236,6 +237,14 @@ fn read_fault(alloc: Global, name: &Name) -> Result<Bytes, Memory>
     Ok(text)
 }
 
+fn usage(alloc: Global) -> Result<Bytes, Memory>
+    ensures { IfOk result (λ text. text ≡ report Ending.Usage) }
+{
+    let mut text = Bytes::new(alloc);
+    text.append(USAGE_REPORT)?;
+    Ok(text)
+}
+
 fn out_of_memory(alloc: Global) -> Result<Bytes, Memory>
     ensures { IfOk result (λ text. text ≡ report Ending.OutOfMemory) }
 {
@@ -243,6 +252,10 @@ fn out_of_memory(alloc: Global) -> Result<Bytes, Memory>
     text.append(MEMORY_REPORT)?;
     Ok(text)
 }
+
+/// How the command is called.
+const USAGE_REPORT: &[u8] =
+    b"usage: lazycheck [--mode check|replay|recheck|gen|emit] [--unwind N] [--rounds K] [--conflicts C] [--schedule NAME] [--proof NAME] [--seed S] FILE\n";
 
 /// The report of want of memory, which is written without taking any.
 pub const MEMORY_REPORT: &[u8] = b"MEMORY\n";
@@ -341,6 +354,7 @@ pub fn status(ending: &Ending) -> u8
         Ending::ProofTooLong => 5,
         Ending::BadSchedule { line: _ } => 10,
         Ending::ReadFault { name: _ } => 6,
+        Ending::Usage => 3,
         Ending::OutOfMemory => 8,
     }
 }

@@ -3,7 +3,7 @@
 use lz_base::{Bytes, Memory, Name};
 use lz_cli::{Evidence, Words, run};
 use lz_outside::{Calls, File, Files, MemoryFolder, MemorySink, write_file};
-use lz_tests::told::{AMPLE, Told};
+use lz_tests::told::{AMPLE, Told, USAGE};
 use std::alloc::Global;
 use std::process::Abort;
 use std::test::Fail;
@@ -368,8 +368,8 @@ fn words_of_replays(rt: HostRuntime) -> Result<(), Fail> {
                 "a.c",
             ],
             LOOP,
-            "NOTBUILT line 0\n",
-            12,
+            USAGE,
+            3,
             "no turn",
         ),
         (
@@ -383,8 +383,8 @@ fn words_of_replays(rt: HostRuntime) -> Result<(), Fail> {
                 "a.c",
             ],
             LOOP,
-            "NOTBUILT line 0\n",
-            12,
+            USAGE,
+            3,
             "a turn too many",
         ),
         (
@@ -398,30 +398,24 @@ fn words_of_replays(rt: HostRuntime) -> Result<(), Fail> {
                 "a.c",
             ],
             LOOP,
-            "NOTBUILT line 0\n",
-            12,
+            USAGE,
+            3,
             "twenty-one digits",
         ),
         (
             &["--unwind", "18446744073709551617", "a.c"],
             LOOP,
-            "NOTBUILT line 0\n",
-            12,
+            USAGE,
+            3,
             "a number of 65 bits is not 1",
         ),
-        (
-            &["--mode", "replay", "a.c"],
-            LOOP,
-            "NOTBUILT line 0\n",
-            12,
-            "no schedule",
-        ),
+        (&["--mode", "replay", "a.c"], LOOP, USAGE, 3, "no schedule"),
         (
             &["--mode", "replay", "--schedule", "-", "a.c"],
             LOOP,
-            "NOTBUILT line 0\n",
-            12,
-            "a schedule whose name begins with -",
+            "READ -\n",
+            6,
+            "a schedule whose name is a dash",
         ),
     ];
     for (words, source, report, status, reason) in table {

@@ -1,7 +1,7 @@
 //! What the command prints and answers, over a folder and a sink in memory. The expected texts were
 //! worked out by hand.
 
-use crate::told::{AMPLE, Told};
+use crate::told::{AMPLE, Told, USAGE};
 use lz_base::{Bytes, Memory, Name};
 use lz_cli::{Ended, Evidence, Words, run};
 use lz_outside::{Calls, File, Files, MemoryFolder, MemorySink};
@@ -48,7 +48,7 @@ fn has_proof(ended: &Ended) -> bool {
 /// The report of a success.
 pub const SUCCESS: &str = "SUCCESSFUL unwind 2 rounds 2\n";
 
-/// That of words that no request names.
+/// That of words which ask for what is not built.
 const NOT_BUILT: &str = "NOTBUILT line 0\n";
 
 /// That of a program that has its first choice on line 1.
@@ -643,7 +643,7 @@ fn words_agree(rt: &impl Abort, alloc: Global, rows: &[WordRow<'_>]) -> Result<(
 /// Words that name a file and words that don't.
 #[test]
 fn reports_of_words(rt: HostRuntime) -> Result<(), Fail> {
-    let table: [WordRow<'_>; 12] = [
+    let table: [WordRow<'_>; 21] = [
         (&["no.c"], "READ no.c\n", 6, "no file of the name"),
         (
             &[""],
@@ -651,35 +651,69 @@ fn reports_of_words(rt: HostRuntime) -> Result<(), Fail> {
             6,
             "the empty word names a file, which is missing",
         ),
-        (&[], NOT_BUILT, 12, "no word"),
-        (&["-"], NOT_BUILT, 12, "a word that begins with -"),
+        (&[], USAGE, 3, "no word"),
+        (&["-"], "READ -\n", 6, "a dash is a name"),
+        (&["--help"], USAGE, 3, "help has no answer of its own"),
         (
             &["--unwind", "3", "a.c"],
             "SUCCESSFUL unwind 3 rounds 2\n",
             0,
             "three turns of a loop",
         ),
-        (&["--unwind", "101", "a.c"], NOT_BUILT, 12, "too many turns"),
-        (&["--unwind", "0", "a.c"], NOT_BUILT, 12, "no turn"),
-        (&["--unwind", "3"], NOT_BUILT, 12, "no file"),
         (
-            &["--unwind", "3", "-"],
+            &["a.c", "--unwind=3"],
+            "SUCCESSFUL unwind 3 rounds 2\n",
+            0,
+            "the order of words is free",
+        ),
+        (
+            &["--rounds", "2", "--conflicts", "100000", "a.c"],
+            SUCCESS,
+            0,
+            "the defaults, written out",
+        ),
+        (
+            &["--seed", "7", "--schedule", "s", "a.c"],
+            SUCCESS,
+            0,
+            "options that the mode does not use",
+        ),
+        (&["--unwind", "101", "a.c"], USAGE, 3, "too many turns"),
+        (&["--unwind", "0", "a.c"], USAGE, 3, "no turn"),
+        (&["--unwind", "3"], USAGE, 3, "no file"),
+        (&["--seed", "65536", "a.c"], USAGE, 3, "too great a seed"),
+        (&["a.c", "a.c"], USAGE, 3, "two files"),
+        (&["--mode", "gen", "a.c"], USAGE, 3, "no seed"),
+        (
+            &["--rounds", "3", "a.c"],
             NOT_BUILT,
             12,
-            "a name that begins with -",
+            "another number of rounds",
         ),
-        (&["a.c", "a.c"], NOT_BUILT, 12, "two words"),
+        (
+            &["--conflicts", "1", "a.c"],
+            NOT_BUILT,
+            12,
+            "another number of conflicts",
+        ),
+        (&["--proof", "p", "a.c"], NOT_BUILT, 12, "a proof"),
+        (
+            &["--mode", "gen", "--seed", "0", "a.c"],
+            NOT_BUILT,
+            12,
+            "a generated program",
+        ),
+        (
+            &["--mode", "emit", "a.c"],
+            NOT_BUILT,
+            12,
+            "a printed program",
+        ),
         (
             &["--mode", "recheck", "no.c"],
             "READ no.c\n",
             6,
             "no proof file of the name",
-        ),
-        (
-            &["--mode", "recheck", "-"],
-            NOT_BUILT,
-            12,
-            "a proof file whose name begins with -",
         ),
     ];
     words_agree(&rt, rt.alloc(), &table)

@@ -1,4 +1,4 @@
-use Rattle.lz_cli.proofs.ExactnessLemmas.{default_source, default_named, decided_ends, decided_within, not_built_ends, not_built_within, faulty_ends, slots_ends, cost_ends, not_a_token_ends, not_a_program_ends, too_long_ends, rechecked_ends, proof_too_long_ends, missing_ends, no_file_ends, answered_ends, replayed_ends, bad_schedule_ends, long_schedule_ends, missing_schedule_ends, failure_reads, failure_runs}
+use Rattle.lz_cli.proofs.ExactnessLemmas.{default_source, default_named, decided_ends, decided_within, not_built_ends, not_built_within, faulty_ends, slots_ends, cost_ends, not_a_token_ends, not_a_program_ends, too_long_ends, rechecked_ends, proof_too_long_ends, missing_ends, usage_ends, unbuilt_ends, answered_ends, replayed_ends, bad_schedule_ends, long_schedule_ends, missing_schedule_ends, failure_reads, failure_runs}
 use Rattle.std.proofs.Common.{inl, inr}
 use Rattle.lz_cli.specs.Limits.{defaults}
 use Rattle.lz_cli.proofs.SourceLemmas.{one_refused}
@@ -43,8 +43,11 @@ returns-clause-missing c = λ call name ending named. missing_ends call name end
 pub returns-clause-missing_proof : goal.returns-clause-missing_proof
 returns-clause-missing_proof c = λ call name ending named. missing_ends call name ending (inr named)
 
-pub returns-clause-no_file : goal.returns-clause-no_file
-returns-clause-no_file c = no_file_ends
+pub returns-clause-usage : goal.returns-clause-usage
+returns-clause-usage c = usage_ends
+
+pub returns-clause-unbuilt : goal.returns-clause-unbuilt
+returns-clause-unbuilt c = unbuilt_ends
 
 pub returns-clause-decided_within : goal.returns-clause-decided_within
 returns-clause-decided_within c = decided_within c.one_program.ensures c.broken_in_its_rounds.ensures

@@ -1,9 +1,0 @@
-use Rattle.std.proofs.Common.{◌≡◌, true, ◌∙◌}
-use Rattle.lz_cli.specs.CommandLine.{is_number}
-use Rattle.lz_cli.proofs.NumbersLemmas.{parsed_number}
-use Rattle.lz_cli.proofs.command_line.number.Goals as goal
-
-pub returns : goal.returns
-returns c =
-    let numeral : is_number c.args.word.now ≡ true = cc in
-    c.ok.ensures.value ∙ parsed_number c.args.word.now c.parse.result numeral c.parse.ensures.value.0
