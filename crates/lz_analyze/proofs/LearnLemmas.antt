@@ -1,8 +1,8 @@
 -- What the walk leaves at the first unique implication point, and at level 0.
-use Rattle.std.proofs.Common.{◌≡◌, ◌≢◌, ℕ, zero, suc, ◌+◌, ◌-◌, ◌<◌, ◌≤◌, ◌⊎◌, inl, inr, ⊎_elim, true, eqb, List, [], ◌∷◌, length, get_or, take, Some, refl, sym, ◌∙◌, ap, subst, arith}
+use Rattle.std.proofs.Common.{◌≡◌, ◌≢◌, ℕ, zero, suc, ◌+◌, ◌-◌, ◌<◌, ◌≤◌, ◌⊎◌, inl, inr, ⊎_elim, true, eqb, List, [], ◌∷◌, ◌++◌, length, get_or, take, reverse, Some, refl, sym, ◌∙◌, ap, subst, arith}
 use Rattle.std.specs.List.{All, Contains, list_any}
 use Rattle.std.proofs.lemmas.Bool.{cases_eq, eq-eqb, and_from}
-use Rattle.std.proofs.lemmas.List.{take_more, take_all}
+use Rattle.std.proofs.lemmas.List.{take_more, take_all, length-reverse, get_or_default}
 use Rattle.std.proofs.lemmas.List.Elements.{All-contains, All-cons, All-nil, All-more, Contains-get_or, Contains-append_left, Contains-append_right, Contains-push}
 use Rattle.lz_base.proofs.ListLemmas.{head_contained}
 use Rattle.lz_cnf.specs.declared.clause.Lit.{Lit}
@@ -14,13 +14,16 @@ use Rattle.lz_prop.specs.Trail.{Entry, TrailState, IsTrail, IsFalseNamed, HoldsC
 use Rattle.lz_prop.proofs.LitLemmas.{Contains-map, Contains-from_map}
 use Rattle.lz_prop.proofs.EntryLemmas.{one_entry, entry_held, set_consistent}
 use Rattle.lz_analyze.specs.Learnt.{IsFalseAt, IsLearnt}
-use Rattle.lz_analyze.specs.Walks.{is_open, IsWalk}
-use Rattle.lz_analyze.specs.Walking.{IsTodo}
+use Rattle.lz_analyze.specs.Walks.{is_open, IsWalk, LeadsFrom}
+use Rattle.lz_analyze.specs.Walking.{IsTodo, IsAtPoint}
+use Rattle.lz_analyze.specs.declared.walk.Walk.{Walk}
 use Rattle.lz_analyze.specs.Highest.{IsHighest}
 use Rattle.lz_analyze.specs.LearntFrom.{IsLearntFrom}
 use Rattle.lz_log.specs.Newness.{IsNewClause}
 use Rattle.lz_log.proofs.RefutationLemmas.{same_named}
 use Rattle.lz_analyze.proofs.LearntLemmas.{learnt_is_new, learnt_was_open, learnt_is_unit}
+use Rattle.lz_analyze.specs.Chains.{Link, IsChain, IsShorter}
+use Rattle.lz_analyze.proofs.ChainLemmas.{before_hints, chain_leads}
 use Rattle.lz_analyze.proofs.LevelLemmas.{conflict_at_level}
 use Rattle.lz_analyze.proofs.WalkLemmas.{last_open_leads, none_counted, marked_is}
 use Rattle.lz_analyze.proofs.WalkingLemmas.{open_entry}
@@ -79,7 +82,7 @@ place s marked low at hints e point = let within = point.walk.within in let posi
 in_set : (s : TrailState) (marked : List ℕ) (low : List Lit) (at : ℕ) (hints : List ℕ) (e : Entry) → IsPoint s marked low at hints e → Contains s.set e
 in_set s marked low at hints e point = (at - 1, place s marked low at hints e point, point.is e)
 
-all_false : (s : TrailState) (marked : List ℕ) (low : List Lit) (at : ℕ) (hints : List ℕ) (e : Entry) → IsPoint s marked low at hints e → All (IsFalseLit (literals s.set)) (negated e.lit ∷ low)
+pub all_false : (s : TrailState) (marked : List ℕ) (low : List Lit) (at : ℕ) (hints : List ℕ) (e : Entry) → IsPoint s marked low at hints e → All (IsFalseLit (literals s.set)) (negated e.lit ∷ low)
 all_false s marked low at hints e point =
     All-cons (IsFalseLit (literals s.set)) (negated e.lit) low
     (subst (Contains (literals s.set)) (sym (negated-negated e.lit)) (Contains-map (λ (x : Entry). x.lit) s.set e (in_set s marked low at hints e point)))
@@ -255,6 +258,135 @@ learnt_point s marked low clause at hints by_ e level trail point positive high 
       unit = λ _. subst (IsUnitClause (literals (gone_back s level).set)) (sym is_clause) (learnt_is_unit s own (negated e.lit) level trail learnt);
     }
 
+-- ---- a part of the clause at the first unique implication point
+
+-- the point, as the code stands at it
+pub point_at : (s : TrailState) (w : Walk) (d : Entry) → IsAtPoint s w → IsPoint s w.marks.keys w.low.items w.at (reverse w.hints.items) (get_or s.set (w.at - 1) d)
+point_at s w d at = record {
+  walk = subst (λ (n : ℕ). IsWalk s (IsTodo s w.at []) w.marks.keys w.low.items w.at n (reverse w.hints.items)) at.one at.over.walk;
+  positive = at.positive;
+  is = λ x. get_or_default s.set (w.at - 1) x d (let within = at.over.walk.within in let positive = at.positive in omega arith);
+  open_ = at.open_ d;
+}
+
+-- the point's literal and those below the present level are false
+pub point_false : (s : TrailState) (w : Walk) (d : Entry) (point : Lit) (low : List Lit) → IsAtPoint s w → point ≡ negated (get_or s.set (w.at - 1) d).lit → low ≡ w.low.items → All (IsFalseLit (literals s.set)) (point ∷ low)
+point_false s w d point low at is same =
+    subst (λ (p : Lit). All (IsFalseLit (literals s.set)) (p ∷ low)) (sym is)
+    (subst (λ (xs : List Lit). All (IsFalseLit (literals s.set)) (negated (get_or s.set (w.at - 1) d).lit ∷ xs)) (sym same)
+    (all_false s w.marks.keys w.low.items w.at (reverse w.hints.items) (get_or s.set (w.at - 1) d) (point_at s w d at)))
+
+some_reversed : (hints : List ℕ) → 0 < length hints → 0 < length (reverse hints)
+some_reversed hints some = let same = length-reverse hints in omega arith
+
+pub whole_learnt : (s : TrailState) (w : Walk) (d : Entry) (point : Lit) (clause : List Lit) (by_ : List ℕ) (level : ℕ) → IsTrail s → IsAtPoint s w → 0 < s.level → point ≡ negated (get_or s.set (w.at - 1) d).lit
+    → IsHighest s.set w.low.items level → clause ≡ point ∷ w.low.items → by_ ≡ reverse w.hints.items → IsLearntFrom s clause by_ level
+whole_learnt s w d point clause by_ level trail at positive is high is_clause is_hints =
+    learnt_point s w.marks.keys w.low.items clause w.at (reverse w.hints.items) by_ (get_or s.set (w.at - 1) d) level trail (point_at s w d at) positive high
+    (is_clause ∙ ap (λ (p : Lit). p ∷ w.low.items) is) is_hints
+
+-- the walk's hints lead from the point's clause
+pub point_leads : (s : TrailState) (marked : List ℕ) (low : List Lit) (at : ℕ) (hints : List ℕ) (e : Entry) → IsTrail s → IsPoint s marked low at hints e
+    → LeadsFrom (literals s.set) s.clauses (Contains (negated e.lit ∷ low)) hints
+point_leads s marked low at hints e trail point =
+    λ false_ are covers.
+    let positive = point.positive in
+    let same : at ≡ (at - 1) + 1 = omega arith in
+    let here : get_or s.set (at - 1) e ≡ e = point.is e in
+    last_open_leads s (IsTodo s at []) marked low false_ (at - 1) e hints trail (subst (λ (n : ℕ). IsWalk s (IsTodo s at []) marked low n 1 hints) same point.walk)
+    (λ l todo. let g = todo.0 in omega (arith, g.1))
+    (ap (is_open s.level marked) here ∙ point.open_) are
+    (λ k d lt. covers (get_or low k d) (Contains-append_right (negated e.lit ∷ []) low (get_or low k d) (Contains-get_or low k d lt)))
+    (subst (λ (x : Entry). Contains false_ (negated x.lit)) (sym here) (covers (negated e.lit) (head_contained (negated e.lit) low)))
+
+kept_lower : (s : TrailState) (low kept : List Lit) → All (IsFalseAt s.set (λ level. level < s.level)) low → All (Contains low) kept → All (IsFalseAt s.set (λ level. level < s.level)) kept
+kept_lower s low kept lower part k d lt = All-contains (IsFalseAt s.set (λ level. level < s.level)) low (get_or kept k d) lower (part k d lt)
+
+-- what a part of the clause is, told by the trail
+pub shorter_learnt : (s : TrailState) (marked : List ℕ) (low kept : List Lit) (at : ℕ) (hints : List ℕ) (e : Entry) (level : ℕ) → IsTrail s → IsPoint s marked low at hints e → 0 < s.level → All (Contains low) kept → IsHighest s.set kept level
+    → IsLearnt s (negated e.lit ∷ kept) (negated e.lit) level
+shorter_learnt s marked low kept at hints e level trail point positive part high =
+    let own = open_entry s.level marked e point.open_ in
+    let level_is = own.level_is in
+    let all_lower = kept_lower s low kept point.walk.lower part in
+    let below = low_below s kept level trail positive all_lower high in
+    let test : ℕ → Type 0 = λ level. level < s.level in
+    let lower : (lit : Lit) → Contains kept lit → IsFalseAt s.set test lit = λ lit has. All-contains (IsFalseAt s.set test) kept lit all_lower has in
+    let bounded : (lit : Lit) → Contains kept lit → IsFalseAt s.set (λ n. n ≤ level) lit = λ lit has.
+    let at_lit = lower lit has in
+    record {
+      entry = at_lit.entry;
+      within = at_lit.within;
+      negates = at_lit.negates;
+      level = All-contains (λ l. (own : ℕ) → level_in (entry_of s.set (variable_of l)) ≡ Some own → own ≤ level) kept lit high.bound has at_lit.entry.level (told_level s test lit trail at_lit);
+    } in
+    record {
+      below = below;
+      within = head_contained (negated e.lit) kept;
+      highest = record { entry = e; within = in_set s marked low at hints e point; negates = sym (negated-negated e.lit); level = omega arith };
+      others = All-cons (λ lit. (lit ≡ negated e.lit) ⊎ IsFalseAt s.set (λ n. n ≤ level) lit) (negated e.lit) kept (inl refl) (λ k d lt. inr (bounded (get_or kept k d) (Contains-get_or kept k d lt)));
+      reached = ⊎_elim (λ zero_. inl zero_)
+          (λ some.
+          let at_lit = lower some.0 some.1 in
+          let same : at_lit.entry.level ≡ level = (let own = told_level s test some.0 trail at_lit in let told = some.2 in cc) in
+          inr (some.0, Contains-append_right (negated e.lit ∷ []) kept some.0 some.1, record { entry = at_lit.entry; within = at_lit.within; negates = at_lit.negates; level = same }))
+          high.reached;
+    }
+
+shorter_apart : (s : TrailState) (marked : List ℕ) (low kept : List Lit) (at : ℕ) (hints : List ℕ) (e : Entry) → IsTrail s → IsPoint s marked low at hints e → All (Contains low) kept → IsApart kept → IsApart (negated e.lit ∷ kept)
+shorter_apart s marked low kept at hints e trail point part apart =
+    let own = open_entry s.level marked e point.open_ in
+    all_pairs_cons (negated e.lit) kept
+    (λ k d lt. apart_from s e (get_or kept k d) trail (in_set s marked low at hints e point) own.level_is (kept_lower s low kept point.walk.lower part k d lt))
+    apart
+
+shorter_false : (s : TrailState) (marked : List ℕ) (low kept : List Lit) (at : ℕ) (hints : List ℕ) (e : Entry) → IsPoint s marked low at hints e → All (Contains low) kept → All (IsFalseLit (literals s.set)) (negated e.lit ∷ kept)
+shorter_false s marked low kept at hints e point part =
+    All-cons (IsFalseLit (literals s.set)) (negated e.lit) kept
+    (subst (Contains (literals s.set)) (sym (negated-negated e.lit)) (Contains-map (λ (x : Entry). x.lit) s.set e (in_set s marked low at hints e point)))
+    (λ k d lt. false_at_all s (λ level. level < s.level) (get_or kept k d) (kept_lower s low kept point.walk.lower part k d lt))
+
+-- the clause without the literals that a chain makes false, by the chain's clauses and then the walk's
+pub learnt_shorter : (s : TrailState) (marked : List ℕ) (low kept clause : List Lit) (links : List Link) (at next : ℕ) (hints by_ : List ℕ) (e : Entry) (level : ℕ) → IsTrail s → IsPoint s marked low at (next ∷ hints) e → 0 < s.level
+    → All (Contains low) kept → IsApart kept → IsHighest s.set kept level
+    → IsChain (literals s.set) s.clauses (Contains (negated e.lit ∷ kept)) links (Contains (negated e.lit ∷ low))
+    → clause ≡ negated e.lit ∷ kept → by_ ≡ before_hints links next hints → IsLearntFrom s clause by_ level
+learnt_shorter s marked low kept clause links at next hints by_ e level trail point positive part apart high chain is_clause is_hints =
+    let own = negated e.lit ∷ kept in
+    let learnt = shorter_learnt s marked low kept at (next ∷ hints) e level trail point positive part high in
+    let all = shorter_false s marked low kept at (next ∷ hints) e point part in
+    let leads = chain_leads (literals s.set) s.clauses (Contains own) (Contains (negated e.lit ∷ low)) links next hints (set_consistent s trail) chain (point_leads s marked low at (next ∷ hints) e trail point) in
+    record {
+      hints = rw (is_clause, is_hints) (follows s own (before_hints links next hints) trail all (leads own all (λ l h. h)));
+      apart = subst IsApart (sym is_clause) (shorter_apart s marked low kept at (next ∷ hints) e trail point part apart);
+      empty = (λ none. let l = ap length none in let m = ap length is_clause in absurd (omega arith), λ zero_. absurd (omega arith));
+      new = λ _. subst (IsNewClause s.clauses) (sym is_clause) (learnt_is_new s own (negated e.lit) level trail learnt);
+      below = λ _. learnt.below;
+      open_ = λ _. subst (WasOpen s level) (sym is_clause) (learnt_was_open s own (negated e.lit) level trail learnt);
+      unit = λ _. subst (IsUnitClause (literals (gone_back s level).set)) (sym is_clause) (learnt_is_unit s own (negated e.lit) level trail learnt);
+    }
+
+-- the same, with the numbers as the code keeps them
+pub learnt_by_links : (s : TrailState) (marked : List ℕ) (low kept clause : List Lit) (numbers : List ℕ) (at : ℕ) (hints by_ : List ℕ) (e : Entry) (level : ℕ) → IsTrail s → IsPoint s marked low at hints e → 0 < s.level → 0 < length hints
+    → IsShorter s (negated e.lit) low kept numbers → IsHighest s.set kept level → clause ≡ negated e.lit ∷ kept → by_ ≡ numbers ++ hints → IsLearntFrom s clause by_ level
+learnt_by_links s marked low kept clause numbers at [] by_ e level trail point positive some shorter high is_clause is_hints = absurd (omega (arith, some))
+learnt_by_links s marked low kept clause numbers at (next ∷ hints) by_ e level trail point positive some shorter high is_clause is_hints =
+    learnt_shorter s marked low kept clause shorter.links at next hints by_ e level trail point positive shorter.within shorter.apart high shorter.chain is_clause
+    (is_hints ∙ ap (λ (xs : List ℕ). xs ++ next ∷ hints) shorter.told)
+
+pub short_learnt : (s : TrailState) (w : Walk) (d : Entry) (point : Lit) (kept clause : List Lit) (numbers by_ : List ℕ) (level : ℕ) → IsTrail s → IsAtPoint s w → 0 < s.level → point ≡ negated (get_or s.set (w.at - 1) d).lit
+    → IsShorter s point w.low.items kept numbers → IsHighest s.set kept level → clause ≡ point ∷ kept → by_ ≡ numbers ++ reverse w.hints.items → IsLearntFrom s clause by_ level
+short_learnt s w d point kept clause numbers by_ level trail at positive is shorter high is_clause is_hints =
+    learnt_by_links s w.marks.keys w.low.items kept clause numbers w.at (reverse w.hints.items) by_ (get_or s.set (w.at - 1) d) level trail (point_at s w d at) positive (some_reversed w.hints.items at.over.some)
+    (subst (λ (p : Lit). IsShorter s p w.low.items kept numbers) is shorter) high
+    (is_clause ∙ ap (λ (p : Lit). p ∷ kept) is) is_hints
+
 -- the literals below the present level have the trail's variables
 pub low_variables : (s : TrailState) (todo : Lit → Type 0) (marked : List ℕ) (low : List Lit) (at pending : ℕ) (hints : List ℕ) → IsTrail s → IsWalk s todo marked low at pending hints → All (λ lit. variable_of lit < s.variables) low
 low_variables s todo marked low at pending hints trail walk k d lt = false_variable s (get_or low k d) trail (false_at_all s (λ level. level < s.level) (get_or low k d) (walk.lower k d lt))
+
+-- and so have those of a part of them
+pub kept_variables : (s : TrailState) (todo : Lit → Type 0) (marked : List ℕ) (low kept : List Lit) (at pending : ℕ) (hints : List ℕ) → IsTrail s → IsWalk s todo marked low at pending hints → All (Contains low) kept
+    → All (λ lit. variable_of lit < s.variables) kept
+kept_variables s todo marked low kept at pending hints trail walk part k d lt =
+    All-contains (λ lit. variable_of lit < s.variables) low (get_or kept k d) (low_variables s todo marked low at pending hints trail walk) (part k d lt)

@@ -5,3 +5,5 @@ pub mod WalkLemmas
 pub mod WalkingLemmas
 pub mod LearnLemmas
 pub mod MarkedLemmas
+pub mod ChainLemmas
+pub mod ShorterLemmas

@@ -4,3 +4,4 @@ pub mod Walking
 pub mod Highest
 pub mod LearntFrom
 pub mod Marked
+pub mod Chains

@@ -1,11 +1,11 @@
 -- Inner: the walk as the code keeps it.
-use Rattle.std.specs.Prelude.{◌≡◌, ℕ, ◌⊎◌, ◌<◌, List, take, length, reverse}
+use Rattle.std.specs.Prelude.{◌≡◌, ℕ, ◌⊎◌, ◌-◌, ◌<◌, true, List, [], take, length, slice_index_or, reverse}
 use Rattle.std.specs.List.{Contains}
 use Rattle.lz_cnf.specs.declared.clause.Lit.{Lit}
 use Rattle.lz_cnf.specs.Models.{variable_of}
 use Rattle.lz_cnf.specs.Partial.{IsFalseLit}
-use Rattle.lz_prop.specs.Trail.{TrailState, HoldsClause, literals}
-use Rattle.lz_analyze.specs.Walks.{IsWalk}
+use Rattle.lz_prop.specs.Trail.{Entry, TrailState, HoldsClause, literals}
+use Rattle.lz_analyze.specs.Walks.{IsWalk, is_open}
 use Rattle.lz_analyze.specs.declared.walk.Walk.{Walk}
 
 -- a literal of the rest of a clause, false by an entry before the place
@@ -28,3 +28,10 @@ IsLentFrom s number lits = HoldsClause s number lits
 -- how many entries of the present level the walk leaves
 abbrev pub IsLeftAt : ℕ → ℕ → Type 0
 IsLeftAt level left = ((level ≡ 0) × (left ≡ 0)) ⊎ (left ≡ 1)
+
+-- the walk stands above the first unique implication point
+pub record IsAtPoint (s : TrailState) (w : Walk) : Type 0 where
+  pub over : IsWalkOver s [] w
+  pub one : w.pending ≡ 1
+  pub positive : 0 < w.at
+  pub open_ : (d : Entry) → is_open s.level w.marks.keys (slice_index_or s.set (w.at - 1) d) ≡ true

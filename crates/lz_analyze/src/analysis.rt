@@ -1,11 +1,14 @@
-ghost use Rattle.std.specs.Prelude.{◌≡◌, ℕ, ◌<◌, ◌≤◌, ◌⊎◌, [], ◌∷◌, Some, reverse, IfOk, OnOk};
+ghost use Rattle.std.specs.Prelude.{◌≡◌, ℕ, ◌-◌, ◌<◌, ◌≤◌, ◌⊎◌, [], ◌∷◌, ◌++◌, Some, slice_index_or, reverse, IfOk, OnOk};
 ghost use Rattle.std.specs.List.{All};
-ghost use Rattle.lz_cnf.specs.Models.{variable_of};
-ghost use Rattle.lz_prop.specs.Trail.{IsTrail, IsFalseNamed, entry_of, level_in};
+ghost use Rattle.lz_cnf.specs.Models.{variable_of, negated};
+ghost use Rattle.lz_prop.specs.Trail.{Entry, IsTrail, IsFalseNamed, entry_of, level_in};
 ghost use Rattle.lz_analyze.specs.Highest.{IsHighest};
-ghost use Rattle.lz_analyze.specs.Walking.{IsWalkOver};
+ghost use Rattle.lz_analyze.specs.Walking.{IsWalkOver, IsAtPoint};
+ghost use Rattle.lz_analyze.specs.Chains.{IsShorter};
 ghost use Rattle.lz_analyze.specs.LearntFrom.{IsLearntFrom};
 
+use crate::finder::Finder;
+use crate::shorter::Shorter;
 use crate::walk::Walk;
 use lz_base::{Memory, Sequence};
 use lz_cnf::{Clause, Lit};
@@ -24,11 +27,12 @@ pub struct Learnt {
     pub level: u32,
 }
 
-/// The numbers from the last to the first.
-fn reversed(alloc: Global, numbers: &[u32]) -> Result<Hints, Memory>
-    ensures { IfOk result (λ all. all ≡ reverse numbers.now) }
+/// Hints, and after them numbers from the last to the first.
+fn reversed(alloc: Global, links: &[u32], numbers: &[u32]) -> Result<Hints, Memory>
+    ensures { IfOk result (λ all. all ≡ links.now ++ reverse numbers.now) }
 {
     let mut all = Sequence::new(alloc);
+    all.append(links)?;
     let mut left = numbers.len();
     while left > 0 {
         left -= 1;
@@ -95,7 +99,7 @@ fn empty_clause(alloc: Global, trail: &Trail, walk: &mut Walk) -> Result<Learnt,
     ensures { IfOk result (λ l. IsLearntFrom trail.now l.clause l.hints l.level) }
 {
     walk.run(trail, 0, 0)?;
-    let hints = reversed(alloc, &walk.hints)?;
+    let hints = reversed(alloc, &[], &walk.hints)?;
     Ok(Learnt {
         clause: Sequence::new(alloc),
         hints,
@@ -103,24 +107,65 @@ fn empty_clause(alloc: Global, trail: &Trail, walk: &mut Walk) -> Result<Learnt,
     })
 }
 
-/// The clause at the first unique implication point, by the hints of a walk above level 0.
-fn point_clause(alloc: Global, trail: &Trail, level: u32, walk: &mut Walk) -> Result<Learnt, Memory>
+/// Lets a walk above level 0 go down to the first unique implication point.
+fn reach_point(trail: &Trail, level: u32, walk: &mut Walk) -> Result<(), Memory>
     requires trail { IsTrail trail.now }
     requires level { level ≡ trail.now.level }
-    requires above { 0 < level }
     requires walk { IsWalkOver trail.now [] walk.old }
     requires enough { 1 ≤ walk.old.pending }
-    ensures { IfOk result (λ l. IsLearntFrom trail.now l.clause l.hints l.level) }
+    ensures { OnOk result (IsAtPoint trail.now walk.new) }
 {
     walk.run(trail, level, 1)?;
     walk.descend(trail, level);
-    let last = trail.order()[walk.at - 1].negated();
-    let clause = clause_of(alloc, last, &walk.low)?;
-    let hints = reversed(alloc, &walk.hints)?;
+    Ok(())
+}
+
+/// The literal of the clause at the first unique implication point.
+fn point_of(trail: &Trail, walk: &Walk) -> Lit
+    requires { IsAtPoint trail.now walk.now }
+    ensures { (d : Entry) → result ≡ negated (slice_index_or trail.now.set (walk.now.at - 1) d).lit }
+{
+    trail.order()[walk.at - 1].negated()
+}
+
+/// The clause at the first unique implication point with all literals below the present level.
+fn whole_clause(alloc: Global, trail: &Trail, walk: &Walk, point: Lit) -> Result<Learnt, Memory>
+    requires trail { IsTrail trail.now }
+    requires above { 0 < trail.now.level }
+    requires walk { IsAtPoint trail.now walk.now }
+    requires point { (d : Entry) → point ≡ negated (slice_index_or trail.now.set (walk.now.at - 1) d).lit }
+    ensures { IfOk result (λ l. IsLearntFrom trail.now l.clause l.hints l.level) }
+{
+    let clause = clause_of(alloc, point, &walk.low)?;
+    let hints = reversed(alloc, &[], &walk.hints)?;
     Ok(Learnt {
         clause,
         hints,
         level: highest(trail, &walk.low),
+    })
+}
+
+/// The clause at the first unique implication point without the literals that the others make false.
+fn short_clause(
+    alloc: Global,
+    trail: &Trail,
+    walk: &Walk,
+    shorter: &Shorter,
+    point: Lit,
+) -> Result<Learnt, Memory>
+    requires trail { IsTrail trail.now }
+    requires above { 0 < trail.now.level }
+    requires walk { IsAtPoint trail.now walk.now }
+    requires point { (d : Entry) → point ≡ negated (slice_index_or trail.now.set (walk.now.at - 1) d).lit }
+    requires shorter { IsShorter trail.now point walk.now.low.items shorter.now.kept.items shorter.now.links.items }
+    ensures { IfOk result (λ l. IsLearntFrom trail.now l.clause l.hints l.level) }
+{
+    let clause = clause_of(alloc, point, &shorter.kept)?;
+    let hints = reversed(alloc, &shorter.links, &walk.hints)?;
+    Ok(Learnt {
+        clause,
+        hints,
+        level: highest(trail, &shorter.kept),
     })
 }
 
@@ -129,6 +174,8 @@ fn point_clause(alloc: Global, trail: &Trail, level: u32, walk: &mut Walk) -> Re
 #[derive(Drop)]
 pub struct Scratch {
     walk: Walk,
+    finder: Finder,
+    shorter: Shorter,
 }
 
 impl Scratch {
@@ -136,8 +183,43 @@ impl Scratch {
     pub fn new(alloc: Global) -> Scratch {
         Scratch {
             walk: Walk::new(alloc),
+            finder: Finder::new(alloc),
+            shorter: Shorter::new(alloc),
         }
     }
+
+    /// How many of the hints of the clause that was learnt last stand before those of the clauses that the analysis met:
+    /// the reasons by which literals were left out.
+    pub fn links(&self) -> usize {
+        self.shorter.links.len()
+    }
+}
+
+/// The clause at the first unique implication point, by the hints of a walk above level 0.
+fn point_clause(
+    alloc: Global,
+    trail: &Trail,
+    level: u32,
+    scratch: &mut Scratch,
+) -> Result<Learnt, Memory>
+    requires trail { IsTrail trail.now }
+    requires level { level ≡ trail.now.level }
+    requires above { 0 < level }
+    requires walk { IsWalkOver trail.now [] scratch.old.walk }
+    requires enough { 1 ≤ scratch.old.walk.pending }
+    ensures { IfOk result (λ l. IsLearntFrom trail.now l.clause l.hints l.level) }
+{
+    reach_point(trail, level, &mut scratch.walk)?;
+    let point = point_of(trail, &scratch.walk);
+    scratch.finder.find(trail, &scratch.walk.low, point.0 / 2)?;
+    if scratch
+        .shorter
+        .shorten(trail, &scratch.finder, point, &scratch.walk.low)?
+    {
+        return short_clause(alloc, trail, &scratch.walk, &scratch.shorter, point);
+    }
+    scratch.shorter.forget_links();
+    whole_clause(alloc, trail, &scratch.walk, point)
 }
 
 /// The clause that is learnt from a false clause: the empty one exactly at level 0, else the one at the first unique
@@ -165,5 +247,5 @@ pub fn learn_with(
     if level == 0 {
         return empty_clause(alloc, trail, &mut scratch.walk);
     }
-    point_clause(alloc, trail, level, &mut scratch.walk)
+    point_clause(alloc, trail, level, scratch)
 }

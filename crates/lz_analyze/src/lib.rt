@@ -2,7 +2,9 @@
 #![tactic(auto)]
 
 mod analysis;
+mod finder;
 mod marks;
+mod shorter;
 mod walk;
 
 pub use analysis::{Learnt, Scratch, learn, learn_with};

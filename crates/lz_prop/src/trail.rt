@@ -52,6 +52,20 @@ impl Trail {
         Ok(Trail { inner })
     }
 
+    /// The number of variables. Takes no memory.
+    pub fn variables(&self) -> u32
+        ensures { result ≡ self.now.variables }
+    {
+        self.inner.variables
+    }
+
+    /// The number of kept clauses. Takes no memory.
+    pub fn clauses(&self) -> usize
+        ensures { result ≡ length self.now.clauses }
+    {
+        self.inner.store.len()
+    }
+
     /// The present level. Takes no memory.
     pub fn level(&self) -> u32
         ensures level { result ≡ self.now.level }

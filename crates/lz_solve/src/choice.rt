@@ -81,14 +81,15 @@ fn raise_clause(order: &mut Order, clause: &[Lit])
     }
 }
 
-/// Raises the scores of the variables of the clauses that the hints name.
-pub fn raise_hints(order: &mut Order, trail: &Trail, hints: &[u32], count: usize)
+/// Raises the scores of the variables of the clauses that the hints name, from this one on.
+pub fn raise_hints(order: &mut Order, trail: &Trail, hints: &[u32], from: usize, count: usize)
     requires { count ≡ length trail.now.clauses }
     ensures { order.new.count ≡ order.old.count }
 {
-    for hint in hints {
-        if *hint > 0 && *hint as usize <= count {
-            raise_clause(order, trail.clause(*hint));
+    for at in from..hints.len() {
+        let hint = hints[at];
+        if hint > 0 && hint as usize <= count {
+            raise_clause(order, trail.clause(hint));
         }
     }
 }

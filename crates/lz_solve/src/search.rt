@@ -58,7 +58,7 @@ fn values_of(alloc: Global, trail: &Trail, variables: u32) -> Result<Assignment,
 }
 
 /// Learns from a false clause, and answers whether the clause that follows is the empty one. Else it is kept once the
-/// trail has gone back, and the scores of the variables of all clauses that it rests on rise.
+/// trail has gone back, and the scores of the variables of all clauses that the analysis met rise.
 fn learn_from(
     alloc: Global,
     order: &mut Order,
@@ -80,7 +80,7 @@ fn learn_from(
         })?;
         return Ok(true);
     }
-    raise_hints(order, trail, learnt.hints.items(), count);
+    raise_hints(order, trail, learnt.hints.items(), scratch.links(), count);
     go_back(order, trail, learnt.level);
     trail.add(learnt.clause.items())?;
     log.push(LogStep {
