@@ -1,5 +1,5 @@
 -- A part of a clause makes the other literals false: the steps, as the code takes them.
-use Rattle.std.proofs.Common.{◌≡◌, ◌≢◌, ℕ, zero, suc, ◌+◌, ◌<◌, ◌≤◌, ◌⊎◌, inl, inr, ⊎_elim, Bool, true, false, cond, eqb, List, [], ◌∷◌, ◌++◌, length, get_or, take, map, Option, Some, None, refl, sym, ◌∙◌, ap, subst, arith}
+use Rattle.std.proofs.Common.{◌≡◌, ◌≢◌, ℕ, suc, ◌<◌, ◌≤◌, ◌⊎◌, inl, inr, ⊎_elim, Bool, true, false, cond, eqb, List, [], ◌∷◌, ◌++◌, length, get_or, take, map, Some, None, refl, sym, ◌∙◌, ap, subst, arith}
 use Rattle.std.specs.List.{All, Contains, list_any}
 use Rattle.std.proofs.lemmas.Bool.{cases_Bool, eqb-true, true≢false}
 use Rattle.std.proofs.lemmas.List.{get_or-take, length-take-le, get_or_default}
@@ -8,16 +8,16 @@ use Rattle.std.proofs.lemmas.List.Quantifiers.{all_pairs_push}
 use Rattle.lz_base.proofs.ListLemmas.{head_contained, contained_cases}
 use Rattle.lz_cnf.specs.declared.clause.Lit.{Lit}
 use Rattle.lz_cnf.specs.Models.{variable_of, negated}
-use Rattle.lz_cnf.specs.Partial.{IsFalseLit, IsNamed}
+use Rattle.lz_cnf.specs.Partial.{IsFalseLit}
 use Rattle.lz_cnf.proofs.LitLemmas.{variable_of-negated, negated-negated}
 use Rattle.lz_log.proofs.RefutationLemmas.{same_named}
 use Rattle.lz_prop.specs.Trail.{Entry, TrailState, IsTrail, RestsOn, HoldsClause, literals, entry_of, reason_in}
 use Rattle.lz_prop.proofs.LitLemmas.{Contains-map, Contains-from_map}
 use Rattle.lz_prop.proofs.EntryLemmas.{one_entry}
-use Rattle.lz_analyze.specs.Chains.{Link, IsChain, IsPart, IsKnown, IsReplay, IsShorter}
+use Rattle.lz_analyze.specs.Chains.{Link, IsPart, IsKnown, IsReplay, IsShorter}
 use Rattle.lz_analyze.proofs.ChainLemmas.{chain_push, chain_part}
 use Rattle.lz_analyze.proofs.WalkLemmas.{front_of, marked_is}
-use Rattle.lz_analyze.proofs.WalkingLemmas.{IsInserted, was_none, keys_more, keys_same, any_contains, reason_at, named_within}
+use Rattle.lz_analyze.proofs.WalkingLemmas.{IsInserted, keys_more, keys_same, any_contains, reason_at, named_within}
 
 -- false literals of one variable are one
 pub same_false : (s : TrailState) (l m : Lit) → IsTrail s → IsFalseLit (literals s.set) l → IsFalseLit (literals s.set) m → variable_of l ≡ variable_of m → l ≡ m

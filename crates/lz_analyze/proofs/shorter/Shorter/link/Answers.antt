@@ -1,4 +1,4 @@
-use Rattle.std.proofs.Common.{ℕ, ◌∷◌, [], ◌++◌, List, refl, sym, subst}
+use Rattle.std.proofs.Common.{refl, sym, subst}
 use Rattle.lz_analyze.specs.Chains.{IsReplay}
 use Rattle.lz_analyze.proofs.ShorterLemmas.{reason_named, replay_more}
 use Rattle.lz_analyze.proofs.shorter.Shorter.link.Goals as goal
