@@ -54,6 +54,7 @@ none_first a rest h = by (started_by a.action) refl h
     by None is h = (is, h)
     by (Some start) is h = absurd cc
 
+-- if no slot but 0 starts a routine, no event of another one does
 pub parts_alone : (es : List (deeds.Event Act)) → ((k : ℕ) → routines_of (part (suc k) es) ≡ []) → OnlyMain es
 unfolding part
 parts_alone [] all = tt
@@ -104,6 +105,7 @@ named_start top f HoldOn s h e = absurd cc
 named_start top f HoldOff s h e = absurd cc
 named_start top f (End w) s h e = absurd cc
 
+-- the slots that are made rise, to the end of the run
 pub made_rises : (top : ℕ) (es : List (deeds.Event Act)) (made : List ℕ) → RisesTo top 0 made → AllAwake made es → AllNamed top es → RisesTo top 0 (made_in made es)
 unfolding made_in
 made_rises top [] made r awake named = r

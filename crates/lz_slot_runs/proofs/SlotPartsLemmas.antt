@@ -90,6 +90,7 @@ fine top last made e rest s some at goes main = (thread, well top (slot_of last)
     wakes : (c w : ℕ) → e.action ≡ Signal c (Some w) → slot_of last w < top
     wakes c w is = slot_below top last w some at.rises (let z = woken_is_made s e.thread c w (subst (λ (a : Action). act s e.thread a ≢ blocked) is goes) in let y = most in omega (arith, z, y))
 
+-- so with every event of a run
 all_fine : (top : ℕ) (last : List ℕ) (run : List Event) (made : List ℕ) (s : State) → 0 < top → At top last made run s → MainCreates run → course run s ≢ stuck → AllFine top last run
 all_fine top last [] made s some at main on = tt
 all_fine top last (e ∷ rest) made s some at main on =
@@ -161,6 +162,7 @@ record Begun (begins_ : State) (does : ℕ → ℕ → List Act → Type 0) (las
   is : model.start_of (suc r) run ≡ Some (record { thread = suc r; routine = k; argument = value })
   given : argument (slot_program begins_ does) (suc k) (by_slots last run) ≡ value
 
+-- at an event that creates: it is this thread's start, or a later one is
 begun_here : (top : ℕ) (begins_ : State) (does : ℕ → ℕ → List Act → Type 0) (last made : List ℕ) (r k : ℕ) (e : Event) (rest : List Event) (s : State) (start : actions.Start) → At top last made (e ∷ rest) s
     → started_by e.action ≡ Some start → Made top last made start rest → start.thread ≡ length s.threads → r < length last → slice_index last r ≡ suc k
     → (eqb start.thread (suc r) ≡ false → Begun begins_ does last r k rest) → Begun begins_ does last r k (e ∷ rest)
@@ -195,11 +197,13 @@ begun_here top begins_ does last made r k e rest s start at is next number below
             let size = at.size in
             omega (arith, same, long, one, size, number)
 
+-- at an event that creates none: a later one is
 begun_later : (begins_ : State) (does : ℕ → ℕ → List Act → Type 0) (last : List ℕ) (r k : ℕ) (e : Event) (rest : List Event) → started_by e.action ≡ None → Begun begins_ does last r k rest → Begun begins_ does last r k (e ∷ rest)
 unfolding argument
 begun_later begins_ does last r k e rest f more =
     record { value = more.value; is = rw f more.is; given = rw (started_with (slot_of last) e.action, f) more.given }
 
+-- a thread that is made later is started by one of these events
 begun : (top : ℕ) (begins_ : State) (does : ℕ → ℕ → List Act → Type 0) (last : List ℕ) (r k : ℕ) (run : List Event) (made : List ℕ) (s : State) → At top last made run s → MainCreates run → course run s ≢ stuck
     → length s.threads ≤ suc r → r < length last → slice_index last r ≡ suc k → Begun begins_ does last r k run
 unfolding argument
@@ -298,15 +302,19 @@ module _ (top : ℕ) (process : Process) (does : ℕ → ℕ → List Act → Ty
       by None h = rw h refl
       by (Some start) h = goes.main_alone start.routine start.argument (model.part (suc k) run) h
 
+  -- thread 0 alone creates threads
   main_makes : MainCreates run
   main_makes = creates_alone run alone
 
+  -- the slots that it makes rise
   rising : RisesTo top 0 (slots_of run)
   rising = goes.main_rises (model.part 0 run) (is.parts 0)
 
+  -- what holds at the first event
   first_at : At top (slots_of run) [] run process.begins
   first_at = record { is = refl; rises = rising; size = one }
 
+  -- every event is of a thread that is made in the end, and named well
   fine_all : AllFine top (slots_of run) run
   fine_all = all_fine top (slots_of run) run [] process.begins some first_at main_makes is.goes
 

@@ -77,6 +77,7 @@ numbered_event e [] s (broke kind) is main goes later = by (eqb e.thread 0)
     by false = tt
 numbered_event e (d ∷ rest) s (broke kind) is main goes later = absurd (goes refl)
 
+-- so in a whole run
 numbered_run : (run : List Event) (s : State) → course run s ≢ stuck → MainCreates run → CreatesFrom (model.part 0 run) (length s.threads)
 numbered_run [] s goes main = tt
 numbered_run (e ∷ rest) s goes main = numbered_event e rest s (act s e.thread e.action) refl main.0 goes (λ s2 on. numbered_run rest s2 on main.1)
@@ -92,6 +93,7 @@ main_creates f zero_is (e ∷ rest) only = ((λ other. by e.thread refl other), 
 
 -- ---- what starts a thread
 
+-- a slot that is made in the run is started by its creation, with its routine and argument
 start_is : (top : ℕ) (begins_ : State) (does : ℕ → ℕ → List Act → Type 0) (last : List ℕ) (k : ℕ) (es : List (deeds.Event Act)) (made : List ℕ) → made_in made es ≡ last
     → is_awake last (suc k) ≡ true → is_awake made (suc k) ≡ false → AllAwake made es → AllNamed top es
     → model.start_of (thread_of last (suc k)) (events_with (thread_of last) es)
@@ -204,21 +206,27 @@ same_descents top made (e ∷ d ∷ rest) h all =
 module _ (top : ℕ) (process : Process) (does : ℕ → ℕ → List Act → Type 0) (goes : GoesBySlots top process does) (es : List (deeds.Event Act))
     (parts : (u : ℕ) → deeds.IsPart (slot_program process.begins does) u es) (awake : AllAwake [] es) (one : length process.begins.threads ≡ 1)
     (on : course (events_with (thread_of (made_in [] es)) es) process.begins ≢ stuck) where
+  -- the slots that are made in the end
   last : List ℕ
   last = made_in [] es
 
+  -- every event is named well
   named : AllNamed top es
   named = parts_named top es (λ u. goes.slots_are u _ (part u es) (parts u))
 
+  -- slot 0 alone starts others
   only : OnlyMain es
   only = parts_alone es (λ k. goes.slots_alone k _ (part (suc k) es) (parts (suc k)))
 
+  -- every event is of a slot that is made
   there_all : AllMade (made_in [] es) es
   there_all = all_made es [] awake
 
+  -- the slots that are made rise
   rises : RisesTo top 0 (made_in [] es)
   rises = made_rises top es [] tt awake named
 
+  -- thread 0 does what main may
   main_does : process.main (model.part 0 (events_with (thread_of (made_in [] es)) es))
   main_does =
       let numbered : CreatesFrom (model.part 0 (events_with (thread_of (made_in [] es)) es)) 1 =
@@ -227,6 +235,7 @@ module _ (top : ℕ) (process : Process) (does : ℕ → ℕ → List Act → Ty
       let same = part_with (made_in [] es) 0 es (is_awake_at (made_in [] es) 0 (omega arith)) there_all in
       subst process.main (sym same) (goes.main_back (thread_of (made_in [] es)) refl (part 0 es) (parts 0) (subst (λ (x : List Act). CreatesFrom x 1) same numbered))
 
+  -- a thread that is started does what its routine may
   started_does : (k : ℕ) → is_awake (made_in [] es) (suc k) ≡ true
       → MayDo process (model.start_of (thread_of (made_in [] es) (suc k)) (events_with (thread_of (made_in [] es)) es)) (model.part (thread_of (made_in [] es) (suc k)) (events_with (thread_of (made_in [] es)) es))
   started_does k a =
@@ -237,6 +246,7 @@ module _ (top : ℕ) (process : Process) (does : ℕ → ℕ → List Act → Ty
       subst (λ (x : Option actions.Start). MayDo process x (model.part (thread_of (made_in [] es) (suc k)) (events_with (thread_of (made_in [] es)) es))) (sym is)
       (subst (process.started k (argument (slot_program process.begins does) (suc k) es)) (sym same) (goes.started_back (thread_of (made_in [] es)) refl k (argument (slot_program process.begins does) (suc k) es) (part (suc k) es) begun))
 
+  -- each thread does what it may
   each_does : (q : ℕ) → MayDoIn process (events_with (thread_of (made_in [] es)) es) q (model.part q (events_with (thread_of (made_in [] es)) es))
   each_does zero = main_does
   each_does (suc r) = by (nat_lt r (length (made_in [] es))) refl
@@ -264,6 +274,7 @@ pub record ByThreads (process : Process) (rounds : ℕ) (kind : BreakKind) (line
   pub few : rounds_of_run (by_threads [] es) ≤ rounds
   pub named_ : by_threads [] es ≡ events_with (thread_of (made_in [] es)) es
 
+-- so it is with every run of slots that breaks
 pub runs_by_threads : (top : ℕ) (process : Process) (does : ℕ → ℕ → List Act → Type 0) → GoesBySlots top process does → length process.begins.threads ≡ 1
     → (rounds : ℕ) (kind : BreakKind) (line : ℕ) (es : List (deeds.Event Act)) → IsBrokenRunOf (slot_program process.begins does) rounds kind line es → ByThreads process rounds kind line es
 runs_by_threads top process does goes one rounds kind line es is =

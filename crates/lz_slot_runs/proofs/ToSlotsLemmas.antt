@@ -58,6 +58,7 @@ pub record Made (top : ℕ) (last made : List ℕ) (start : actions.Start) (rest
   pub back : thread_of made (slot_of last start.thread) ≡ start.thread
   pub after : last ≡ (made ++ slot_of last start.thread ∷ []) ++ slots_of rest
 
+-- a creation with the next number makes the next slot
 pub makes_next : (top : ℕ) (last made : List ℕ) (start : actions.Start) (rest : List Event) → last ≡ made ++ suc start.routine ∷ slots_of rest → RisesTo top 0 last → start.thread ≡ suc (length made) → Made top last made start rest
 makes_next top last made start rest is rises next =
     let r : RisesTo top 0 (made ++ suc start.routine ∷ slots_of rest) = subst (RisesTo top 0) is rises in
@@ -73,6 +74,7 @@ makes_next top last made start rest is rises next =
       after = is ∙ sym (append_assoc made (suc start.routine ∷ []) (slots_of rest)) ∙ ap (λ (k : ℕ). (made ++ k ∷ []) ++ slots_of rest) (sym slot);
     }
 
+-- so with every event that is not blocked
 now : (top : ℕ) (last made : List ℕ) (e : Event) (rest : List Event) (s : State) → At top last made (e ∷ rest) s → act s e.thread e.action ≢ blocked → (e.thread ≢ 0 → started_by e.action ≡ None) → Now top last made e rest s
 now top last made e rest s at goes main =
     by (started_by e.action) refl
@@ -138,6 +140,7 @@ at_after top last made e rest s s2 at is main =
 
 -- ---- the run by slots breaks
 
+-- one event, from what its action comes to
 slots_event : (top : ℕ) (begins_ : State) (does : ℕ → ℕ → List Act → Type 0) (kind : BreakKind) (line : ℕ) (last made : List ℕ) (e : Event) (rest : List Event) (s : State) → At top last made (e ∷ rest) s
     → (e.thread ≢ 0 → started_by e.action ≡ None) → (acted : Acted) → act s e.thread e.action ≡ acted → course_after acted e.line rest (course rest) ≡ broken kind line
     → ((made2 : List ℕ) (s2 : State) → At top last made2 rest s2 → course rest s2 ≡ broken kind line → ending (slot_program begins_ does) (by_slots last rest) (record { state = s2; made = made2 }) ≡ ends_broken kind line)
@@ -156,6 +159,7 @@ slots_event top begins_ does kind line last made e [] s at main (broke k) is end
     rw (started_with (slot_of last) e.action, known.awake, known.may, known.thread, known.same, is) (rw (p, q) refl)
 slots_event top begins_ does kind line last made e (d ∷ rest) s at main (broke k) is ends later = absurd cc
 
+-- so in a whole run
 pub slots_break : (top : ℕ) (begins_ : State) (does : ℕ → ℕ → List Act → Type 0) (kind : BreakKind) (line : ℕ) (last : List ℕ) (run : List Event) (made : List ℕ) (s : State) → At top last made run s → MainCreates run
     → course run s ≡ broken kind line → ending (slot_program begins_ does) (by_slots last run) (record { state = s; made = made }) ≡ ends_broken kind line
 slots_break top begins_ does kind line last [] made s at main ends = absurd cc

@@ -86,7 +86,7 @@ done_as line made (went s) = gone (record { state = s; made = made })
 done_as line made blocked = waits
 done_as line made (broke kind) = fails kind line
 
--- it is done where the test holds
+-- it is done if the test holds
 abbrev pub where_ : Bool → Done Slotted → Done Slotted
 where_ true r = r
 where_ false r = waits
