@@ -10,7 +10,6 @@ use lz_blast::{Blasted, blast};
 use lz_cnf::Assignment;
 use lz_ssa::{Node, NodeList, Nodes};
 use std::alloc::Global;
-use std::process::Abort;
 use std::test::Fail;
 
 /// Nodes that fail where input 0 is 5, with an input 1 that no node reads.
@@ -54,24 +53,6 @@ fn values_of(alloc: Global, input: u32, differs: bool) -> Result<Assignment, Mem
     Ok(values)
 }
 
-/// An input, whether it is said to differ from 5, whether that is a model, and the reason of the row.
-type Row<'a> = (u32, bool, bool, &'a str);
-
-/// Compares whether each row's values are a model.
-fn models_agree(
-    rt: &impl Abort,
-    alloc: Global,
-    blasted: &Blasted,
-    rows: &[Row<'_>],
-) -> Result<(), Fail> {
-    for (input, differs, want, reason) in rows {
-        let values = values_of(alloc, *input, *differs).ok().ok_or("memory")?;
-        assert_eq!(rt; values.items().len(), 34, "{reason}");
-        assert_eq!(rt; blasted.formula.satisfied_by(&values), *want, "{reason}");
-    }
-    Ok(())
-}
-
 /// The models are the inputs on which the nodes fail.
 #[test]
 fn five_alone_is_a_model(rt: HostRuntime) -> Result<(), Fail> {
@@ -84,11 +65,16 @@ fn five_alone_is_a_model(rt: HostRuntime) -> Result<(), Fail> {
         [32, 0],
         "bits of an input that is read, and of one that is not"
     );
-    let table: [Row<'_>; 4] = [
+    let table = [
         (5, false, true, "the input that fails"),
         (5, true, false, "5 does not differ from itself"),
         (6, true, false, "6 differs"),
         (6, false, false, "and no value hides that"),
     ];
-    models_agree(&rt, rt.alloc(), &blasted, &table)
+    for (input, differs, want, reason) in table {
+        let values = values_of(rt.alloc(), input, differs).ok().ok_or("memory")?;
+        assert_eq!(rt; values.items().len(), 34, "{reason}");
+        assert_eq!(rt; blasted.formula.satisfied_by(&values), want, "{reason}");
+    }
+    Ok(())
 }
