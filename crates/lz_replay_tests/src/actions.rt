@@ -101,7 +101,10 @@ const PICKED: &str =
 
 /// The number that picks an action, whether it waits for the holder of a section, what it comes to by itself, and the
 /// action.
-const PICKS: [(u64, bool, &str, &str); 16] = [
+type Pick = (u64, bool, &'static str, &'static str);
+
+/// All actions that are picked.
+const PICKS: [Pick; 16] = [
     (0, false, GOES, "the end of a thread"),
     (1, false, GOES, "an input"),
     (2, false, GOES, "a check of 1"),
@@ -125,38 +128,68 @@ const PICKS: [(u64, bool, &str, &str); 16] = [
     (15, false, GOES, "the end of a section"),
 ];
 
+/// The steps behind the pick of an action, and how the report begins.
+type Further<'a> = (&'a [Step], &'a str);
+
+/// Replays each row's steps behind the pick of an action.
+fn replay_further(
+    rt: &impl Abort,
+    alloc: Global,
+    front: &[Step],
+    rows: &[Further<'_>],
+    reason: &str,
+) -> Result<(), Fail> {
+    for (steps, want) in rows {
+        replay_so(rt, alloc, PICKED, front, steps, want, reason)?;
+    }
+    Ok(())
+}
+
+/// Replays an action by itself, while another thread holds the section, behind that, and behind the end of the process; and
+/// by a thread that is not made.
+fn replay_pick(rt: &impl Abort, alloc: Global, row: &Pick) -> Result<(), Fail> {
+    let (pick, waits, want, reason) = *row;
+    let front: [Step; 2] = [(0, pick), (0, 0)];
+    let held = if waits { BLOCKED } else { want };
+    let rows: [Further<'_>; 5] = [
+        (&[(1, 0)], want),
+        (&[(0, 0), (1, 0)], held),
+        (&[(0, 0), (0, 0), (1, 0)], want),
+        (&[(0, 0), (0, 0), (0, 0), (1, 0)], BLOCKED),
+        (&[(2, 0)], BLOCKED),
+    ];
+    replay_further(rt, alloc, &front, &rows, reason)
+}
+
+/// Replays each pick.
+fn replay_picks(rt: &impl Abort, alloc: Global, rows: &[Pick]) -> Result<(), Fail> {
+    for row in rows {
+        replay_pick(rt, alloc, row)?;
+    }
+    Ok(())
+}
+
+/// Replays each pick with the choice 1 in place of 0.
+fn replay_choices(rt: &impl Abort, alloc: Global, rows: &[Pick]) -> Result<(), Fail> {
+    for (pick, _, _, reason) in rows {
+        let front: [Step; 2] = [(0, *pick), (0, 0)];
+        let want = if *pick == 1 { GOES } else { BLOCKED };
+        replay_so(rt, alloc, PICKED, &front, &[(1, 1)], want, reason)?;
+    }
+    Ok(())
+}
+
 /// Each action of a thread by itself, while another thread holds the section, behind that, and behind the end of the
 /// process; and by a thread that is not made.
 #[test]
 fn picked_actions(rt: HostRuntime) -> Result<(), Fail> {
-    let alloc = rt.alloc();
-    for (pick, waits, want, reason) in PICKS {
-        let front: [Step; 2] = [(0, pick), (0, 0)];
-        let held = if waits { BLOCKED } else { want };
-        let rows: [(&[Step], &str); 5] = [
-            (&[(1, 0)], want),
-            (&[(0, 0), (1, 0)], held),
-            (&[(0, 0), (0, 0), (1, 0)], want),
-            (&[(0, 0), (0, 0), (0, 0), (1, 0)], BLOCKED),
-            (&[(2, 0)], BLOCKED),
-        ];
-        for (steps, want) in rows {
-            replay_so(&rt, alloc, PICKED, &front, steps, want, reason)?;
-        }
-    }
-    Ok(())
+    replay_picks(&rt, rt.alloc(), &PICKS)
 }
 
 /// No action but an input has a choice of 1, whatever it comes to by 0.
 #[test]
 fn picked_choices(rt: HostRuntime) -> Result<(), Fail> {
-    let alloc = rt.alloc();
-    for (pick, _, _, reason) in PICKS {
-        let front: [Step; 2] = [(0, pick), (0, 0)];
-        let want = if pick == 1 { GOES } else { BLOCKED };
-        replay_so(&rt, alloc, PICKED, &front, &[(1, 1)], want, reason)?;
-    }
-    Ok(())
+    replay_choices(&rt, rt.alloc(), &PICKS)
 }
 
 /// An input of each kind.

@@ -165,8 +165,10 @@ const REPLAYS: [Row; 16] = [
     ),
 ];
 
-/// Schedules of the two increments, which has no step: the report, the status, and the reason of the row.
-const TEXTS: [(&str, &str, u8, &str); 17] = [
+/// A schedule of the two increments, which has no step: the report, the status, and the reason of the row.
+type TextRow = (&'static str, &'static str, u8, &'static str);
+
+const TEXTS: [TextRow; 17] = [
     ("step 0\n", "TEXT line 1\n", 10, "no choice"),
     ("\n\nstep 0 0 \n", "TEXT line 3\n", 10, "a space behind"),
     ("step  0 0\n", "TEXT line 1\n", 10, "two spaces"),
@@ -228,40 +230,64 @@ pub fn compare(rt: &impl Abort, told: &Told, report: &[u8], status: u8, reason: 
 /// The words of a replay with the default bounds.
 pub const PLAIN: [&str; 5] = ["--mode", "replay", "--schedule", "s", "a.c"];
 
-#[test]
-fn replays(rt: HostRuntime) -> Result<(), Fail> {
-    for (source, schedule, report, status, reason) in REPLAYS {
+/// Replays each row's schedule of its source.
+fn replay_rows(rt: &impl Abort, alloc: Global, rows: &[Row]) -> Result<(), Fail> {
+    for (source, schedule, report, status, reason) in rows {
         let told = call(
-            rt.alloc(),
+            alloc,
             &PLAIN,
             source,
             schedule.as_bytes(),
-            Calls::new(rt.alloc()),
+            Calls::new(alloc),
         )
         .ok()
         .ok_or("memory")?;
-        compare(&rt, &told, report.as_bytes(), status, reason);
-    }
-    for (schedule, report, status, reason) in TEXTS {
-        let told = call(
-            rt.alloc(),
-            &PLAIN,
-            INCREMENTS,
-            schedule.as_bytes(),
-            Calls::new(rt.alloc()),
-        )
-        .ok()
-        .ok_or("memory")?;
-        compare(&rt, &told, report.as_bytes(), status, reason);
+        compare(rt, &told, report.as_bytes(), *status, reason);
     }
     Ok(())
 }
 
+/// Replays each row's schedule of one source.
+fn replay_texts(rt: &impl Abort, alloc: Global, rows: &[TextRow]) -> Result<(), Fail> {
+    for (schedule, report, status, reason) in rows {
+        let told = call(
+            alloc,
+            &PLAIN,
+            INCREMENTS,
+            schedule.as_bytes(),
+            Calls::new(alloc),
+        )
+        .ok()
+        .ok_or("memory")?;
+        compare(rt, &told, report.as_bytes(), *status, reason);
+    }
+    Ok(())
+}
+
+#[test]
+fn replays(rt: HostRuntime) -> Result<(), Fail> {
+    replay_rows(&rt, rt.alloc(), &REPLAYS)?;
+    replay_texts(&rt, rt.alloc(), &TEXTS)
+}
+
 /// Words of a replay, a source, the report, the status, and the reason of the row. The schedule is one step of `main`.
+type CallRow<'a> = (&'a [&'a str], &'a str, &'a str, u8, &'a str);
+
+/// Calls the command with each row's words over its source.
+fn call_rows(rt: &impl Abort, alloc: Global, rows: &[CallRow<'_>]) -> Result<(), Fail> {
+    for (words, source, report, status, reason) in rows {
+        let told = call(alloc, words, source, b"step 0 0\n", Calls::new(alloc))
+            .ok()
+            .ok_or("memory")?;
+        compare(rt, &told, report.as_bytes(), *status, reason);
+    }
+    Ok(())
+}
+
 #[test]
 fn words_of_replays(rt: HostRuntime) -> Result<(), Fail> {
     let loops = "int main(void) { while (1) while (1) ; }";
-    let table: [(&[&str], &str, &str, u8, &str); 15] = [
+    let table: [CallRow<'_>; 15] = [
         (
             &[
                 "--mode",
@@ -418,19 +444,7 @@ fn words_of_replays(rt: HostRuntime) -> Result<(), Fail> {
             "a schedule whose name is a dash",
         ),
     ];
-    for (words, source, report, status, reason) in table {
-        let told = call(
-            rt.alloc(),
-            words,
-            source,
-            b"step 0 0\n",
-            Calls::new(rt.alloc()),
-        )
-        .ok()
-        .ok_or("memory")?;
-        compare(&rt, &told, report.as_bytes(), status, reason);
-    }
-    Ok(())
+    call_rows(&rt, rt.alloc(), &table)
 }
 
 /// A read of the schedule that fails is told by the schedule's name. The first two calls wrote it, the next two read the source.

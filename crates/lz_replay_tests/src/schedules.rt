@@ -8,6 +8,7 @@ use lz_cli::{Words, run};
 use lz_outside::{Calls, Failed, Folder, MemorySink};
 use lz_tests::told::{AMPLE, Told};
 use std::alloc::Global;
+use std::process::Abort;
 use std::test::Fail;
 
 /// A line, whether it is a step, and the reason of the row.
@@ -105,39 +106,63 @@ fn text_of(alloc: Global, line: &str, behind: &str) -> Result<Bytes, Memory> {
 /// What stands behind the last line, or behind a line.
 const BEHIND: [&str; 3] = ["", "\n", "\n\nstep x\n"];
 
-#[test]
-fn lines_without_a_reading(rt: HostRuntime) -> Result<(), Fail> {
-    let alloc = rt.alloc();
-    for (line, reason) in OTHERS {
-        for behind in BEHIND {
-            let text = text_of(alloc, line, behind).ok().ok_or("memory")?;
-            let told = call(alloc, &PLAIN, INCREMENTS, text.items(), Calls::new(alloc))
-                .ok()
-                .ok_or("memory")?;
-            compare(&rt, &told, b"TEXT line 2\n", 10, reason);
-        }
+/// Replays a line between a step and each of these texts.
+fn replay_line(
+    rt: &impl Abort,
+    alloc: Global,
+    line: &str,
+    texts: &[&str],
+    report: &[u8],
+    status: u8,
+    reason: &str,
+) -> Result<(), Fail> {
+    for behind in texts {
+        let text = text_of(alloc, line, behind).ok().ok_or("memory")?;
+        let told = call(alloc, &PLAIN, INCREMENTS, text.items(), Calls::new(alloc))
+            .ok()
+            .ok_or("memory")?;
+        compare(rt, &told, report, status, reason);
+    }
+    Ok(())
+}
+
+/// Replays each row's line, which has no reading.
+fn replay_others(rt: &impl Abort, alloc: Global, rows: &[(&str, &str)]) -> Result<(), Fail> {
+    for (line, reason) in rows {
+        replay_line(rt, alloc, line, &BEHIND, b"TEXT line 2\n", 10, reason)?;
+    }
+    Ok(())
+}
+
+/// Replays each row's line, which may be a step.
+fn replay_lines(rt: &impl Abort, alloc: Global, rows: &[(&str, bool, &str)]) -> Result<(), Fail> {
+    for (line, is_step, reason) in rows {
+        let report = if *is_step {
+            b"HOLDS events 2\n".as_slice()
+        } else {
+            b"HOLDS events 1\n".as_slice()
+        };
+        replay_line(
+            rt,
+            alloc,
+            line,
+            &["", "\n", "\n\nFAILED"],
+            report,
+            0,
+            reason,
+        )?;
     }
     Ok(())
 }
 
 #[test]
+fn lines_without_a_reading(rt: HostRuntime) -> Result<(), Fail> {
+    replay_others(&rt, rt.alloc(), &OTHERS)
+}
+
+#[test]
 fn lines_with_a_reading(rt: HostRuntime) -> Result<(), Fail> {
-    let alloc = rt.alloc();
-    for (line, is_step, reason) in LINES {
-        let report = if is_step {
-            b"HOLDS events 2\n".as_slice()
-        } else {
-            b"HOLDS events 1\n".as_slice()
-        };
-        for behind in ["", "\n", "\n\nFAILED"] {
-            let text = text_of(alloc, line, behind).ok().ok_or("memory")?;
-            let told = call(alloc, &PLAIN, INCREMENTS, text.items(), Calls::new(alloc))
-                .ok()
-                .ok_or("memory")?;
-            compare(&rt, &told, report, 0, reason);
-        }
-    }
-    Ok(())
+    replay_lines(&rt, rt.alloc(), &LINES)
 }
 
 /// A folder of two files that keeps neither: `a.c`, a program that does nothing, and under each other name a file of so
@@ -219,10 +244,21 @@ fn call_letters(alloc: Global, words: &[&str], count: u64) -> Result<Told, Memor
 }
 
 /// Words, the number of letters, the report, the status, and the reason of the row.
+type LetterRow<'a> = (&'a [&'a str], u64, &'a str, u8, &'a str);
+
+/// Calls the command with each row's words over a folder of its letters.
+fn letters_agree(rt: &impl Abort, alloc: Global, rows: &[LetterRow<'_>]) -> Result<(), Fail> {
+    for (words, count, report, status, reason) in rows {
+        let told = call_letters(alloc, words, *count).ok().ok_or("memory")?;
+        compare(rt, &told, report.as_bytes(), *status, reason);
+    }
+    Ok(())
+}
+
 #[test]
 fn lengths(rt: HostRuntime) -> Result<(), Fail> {
     let recheck = ["--mode", "recheck", "s"];
-    let table: [(&[&str], u64, &str, u8, &str); 4] = [
+    let table: [LetterRow<'_>; 4] = [
         (
             &PLAIN,
             268_435_456,
@@ -252,9 +288,5 @@ fn lengths(rt: HostRuntime) -> Result<(), Fail> {
             "a proof one byte longer",
         ),
     ];
-    for (words, count, report, status, reason) in table {
-        let told = call_letters(rt.alloc(), words, count).ok().ok_or("memory")?;
-        compare(&rt, &told, report.as_bytes(), status, reason);
-    }
-    Ok(())
+    letters_agree(&rt, rt.alloc(), &table)
 }
