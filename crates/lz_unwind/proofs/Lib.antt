@@ -9,3 +9,5 @@ pub mod ThreadsLemmas
 pub mod SitesLemmas
 pub mod ScopedLemmas
 pub mod FitsLemmas
+pub mod WeightsLemmas
+pub mod HasCallLemmas

@@ -3,3 +3,4 @@ pub mod Pieces
 pub mod Relation
 pub mod Translation
 pub mod Inlining
+pub mod Weights

@@ -2,5 +2,6 @@
 #![tactic(auto)]
 
 mod laws;
+mod moved;
 
 pub use laws::{same_sites, same_traces};
