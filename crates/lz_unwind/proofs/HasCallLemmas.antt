@@ -37,7 +37,7 @@ pub sought_turn : (xs : List ScopedExpr) (at : ℕ) (any new item : Bool) (x : S
 sought_turn xs at any new item x lt is so_far one made =
     let more : left_at xs at ≡ and (scoped_expression x) (left_at xs (at + 1)) = left_more xs at x lt is in
     let step : (any || has_call (scoped_expression x)) || all_have_call (left_at xs (at + 1)) ≡ any || all_have_call (left_at xs at) =
-        sym (or_assoc any (has_call (scoped_expression x)) (all_have_call (left_at xs (at + 1)))) ∙ ap (λ l. any || all_have_call l) (sym more) in
+    sym (or_assoc any (has_call (scoped_expression x)) (all_have_call (left_at xs (at + 1)))) ∙ ap (λ l. any || all_have_call l) (sym more) in
     record { whole = rw (made, one) (step ∙ so_far.whole) }
 
 pub sought_end : (xs : List ScopedExpr) (at : ℕ) (any : Bool) → at ≡ length xs → IsSought xs at any → any ≡ all_have_call (scoped_expressions_of (map scoped_expression xs))
