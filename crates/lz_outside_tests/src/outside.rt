@@ -277,18 +277,22 @@ fn writes_to_memory_or_fails(rt: HostRuntime) -> Result<(), Fail> {
     rows_written(&rt, rt.alloc(), &rows)
 }
 
-// A further file of each row's name, and then what a given file takes.
-fn rows_of_names(rt: &impl Abort, alloc: Global, rows: &[(&str, &str, bool)]) -> Result<(), Fail> {
-    for (reason, name, want) in rows {
-        let mut folder = folder_of(alloc, "a.c", b"int main;", 1, 4, NEVER)
+/// A further file's name has at most 255 bytes, a file is written over, and one that was given may have
+/// more bytes than the room.
+#[test]
+fn keeps_its_room(rt: HostRuntime) -> Result<(), Fail> {
+    let long = [b'n'; 256];
+    let cases = [
+        ("the longest name", 255, true),
+        ("one byte more than the longest name", 256, false),
+    ];
+    for (reason, count, want) in cases {
+        let name = str::from_utf8(&long[..count]).ok().ok_or("text")?;
+        let mut folder = folder_of(rt.alloc(), "a.c", b"int main;", 1, 4, NEVER)
             .ok()
             .ok_or("memory")?;
-        assert_eq!(rt;
-            folder.append_piece(name, b"int").is_ok(),
-            *want,
-            "{reason}"
-        );
-        assert_eq!(rt; folder.file(name).is_some(), *want, "{reason}");
+        assert_eq!(rt; folder.append_piece(name, b"int").is_ok(), want, "{reason}");
+        assert_eq!(rt; folder.file(name).is_some(), want, "{reason}");
         assert_eq!(rt; folder.append_piece("a.c", b"x"), Err(Failed));
         assert_eq!(rt; folder.append_piece("a.c", b""), Ok(0));
         assert_eq!(rt; folder.begin("a.c"), Ok(()));
@@ -296,20 +300,6 @@ fn rows_of_names(rt: &impl Abort, alloc: Global, rows: &[(&str, &str, bool)]) ->
         assert_eq!(rt; folder.file("a.c"), Some(b"int ".as_slice()));
     }
     Ok(())
-}
-
-/// A further file's name has at most 255 bytes, a file is written over, and one that was given may have
-/// more bytes than the room.
-#[test]
-fn keeps_its_room(rt: HostRuntime) -> Result<(), Fail> {
-    let long = [b'n'; 256];
-    let longest = str::from_utf8(&long[..255]).ok().ok_or("text")?;
-    let longer = str::from_utf8(&long).ok().ok_or("text")?;
-    let rows = [
-        ("the longest name", longest, true),
-        ("one byte more than the longest name", longer, false),
-    ];
-    rows_of_names(&rt, rt.alloc(), &rows)
 }
 
 // The reason of a row, the room, the failing call, and what is wanted to be written.
