@@ -11,3 +11,4 @@ pub mod ScopedLemmas
 pub mod FitsLemmas
 pub mod WeightsLemmas
 pub mod HasCallLemmas
+pub mod ShiftingLemmas

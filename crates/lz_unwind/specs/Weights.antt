@@ -1,6 +1,6 @@
 -- Inner: how much there is to translate: a statement with its expressions, and the bodies of functions.
 use Rattle.std.specs.Prelude.{ℕ, ◌+◌, ◌*◌, List, [], ◌∷◌, Option, Some, None}
-use Rattle.lz_tree.specs.ScopedTrees.{ScopedProgram, ScopedDefinition, ScopedInitializer, nothing, single, listed, ScopedInitDeclarator, ScopedStatement, empty, eval, block, declare, when, while, do_while, for, break, continue, return, label, ScopedBranch, absent, branch, ScopedStatements, nil, cons, ScopedExpression}
+use Rattle.lz_tree.specs.ScopedTrees.{ScopedDefinition, ScopedInitializer, nothing, single, listed, ScopedInitDeclarator, ScopedStatement, empty, eval, block, declare, when, while, do_while, for, break, continue, return, label, ScopedBranch, absent, branch, ScopedStatements, nil, cons, ScopedExpression}
 use Rattle.lz_bound.specs.Sizes.{expression_size, expressions_size}
 
 -- an expression that may be missing

@@ -3,5 +3,8 @@
 
 mod laws;
 mod moved;
+mod shifting;
 
 pub use laws::{same_sites, same_traces};
+pub use moved::has_call;
+pub use shifting::shift;

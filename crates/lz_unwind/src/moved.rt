@@ -1,11 +1,8 @@
-ghost use Rattle.std.specs.Prelude.{◌≡◌, ◌+◌, ◌||◌, map, IfOk};
-ghost use Rattle.lz_tree.specs.ScopedTrees.{scoped_expression, scoped_expressions_of, scoped_index_of, scoped_target};
-ghost use Rattle.lz_tree.specs.ScopedTrees as scoped;
+ghost use Rattle.std.specs.Prelude.{◌≡◌, ◌||◌, map};
+ghost use Rattle.lz_tree.specs.ScopedTrees.{scoped_expression, scoped_expressions_of, scoped_index_of};
 ghost use Rattle.lz_unwind.specs.Moved as spec;
 
-use lz_base::{Binary, IntType, Memory};
-use lz_tree::{Object, ScopedExpr, ScopedExprs, ScopedTarget};
-use std::alloc::Global;
+use lz_tree::{Object, ScopedExpr, ScopedTarget};
 
 /// Whether one of two holds.
 fn either(a: bool, b: bool) -> bool
