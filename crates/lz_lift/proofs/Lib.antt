@@ -1,0 +1,4 @@
+pub mod OnlyStartsLemmas
+pub mod RenamedLemmas
+pub mod LiftedLemmas
+pub mod SameRunsLemmas
